@@ -6,7 +6,9 @@ ghost use lib.ListN.{length, getD, take, drop};
 ghost use mathlib.Core.List.{List, _++_};
 ghost use Rattle.base.specs.Bytes.{Xored, zeros, padded, digits, shifted, double};
 ghost use Rattle.base.specs.Text.{text};
+ghost use Rattle.std.specs.Orderings.{Decides};
 use crate::block::Block;
+use crate::slices::agree;
 use crate::slices::number_into;
 use crate::slices::pad_into;
 use crate::slices::shift_left;
@@ -106,6 +108,15 @@ impl Block {
     {
         let n = out.len();
         out.copy_from_slice(&self.as_slice()[0..n]);
+    }
+
+    // Whether the first bytes are `part`, which is not longer.
+    pub fn begins_with(&self, part: &[u8]) -> bool
+        requires { ⌜ length (now part) ≤ length (text (now self)) ⌝ }
+        ensures { λ r. ⌜ Decides r (take (length (now (part .entry))) (text (now (self .entry))) ≡ now (part .entry)) ⌝ }
+    {
+        let n = part.len();
+        agree(&self.as_slice()[0..n], part)
     }
 
     // Whether the top bit is 1.

@@ -1,0 +1,4 @@
+pub mod Offsets
+pub mod Chain
+pub mod Directions
+pub mod Progress
