@@ -116,7 +116,8 @@ impl End {
     // The tag of a body that is not shorter than a tag.
     pub fn tag_part(self, body: &[u8], tag: usize) -> &[u8]
         requires { ⌜ tag ≤ length (now body) ⌝ }
-        ensures { λ r. ⌜ now r ≡ tag-part self tag (now (body .entry)) ⌝ }
+        ensures part { λ r. ⌜ now r ≡ tag-part self tag (now (body .entry)) ⌝ }
+        ensures long { λ r. ⌜ length (now r) ≡ tag ⌝ }
     {
         let n = body.len();
         match self {
