@@ -16,6 +16,7 @@ filled w fb start V z s first entries v fb′ e d n o r up l =
     let s-is : text s ≡ star w V = o ∙ rw (n, e) in
     record {
       star-is = s-is;
+      star-long = l;
       entries-are = record { are = λ k h b. up k h b ∙ rw (r, s-is, d) };
       wide = record { long = λ k h b. ap length (up k h b) ∙ length-doubled fb′ k (text first) ∙ ap length r ∙ length-doubled fb′ start (text s) ∙ l };
     }

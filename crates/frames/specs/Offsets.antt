@@ -33,5 +33,6 @@ pub record Wide (w : ℕ) (table : OffsetTable) : Type 0 where
 -- the table holds L*, and entries whose first is L* doubled `start` times
 pub record Filled (w fb start : ℕ) (l : List ℕ) (table : OffsetTable) : Type 0 where
   pub star-is : text (table .star) ≡ l
+  pub star-long : length (text (table .star)) ≡ w
   pub entries-are : Entries table (λ k. doubled fb k (doubled fb start l))
   pub wide : Wide w table
