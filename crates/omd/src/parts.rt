@@ -77,7 +77,11 @@ fn last_block<F: Compression>(
     dst.copy_from_slice(target.as_slice());
     let page = direction.page(source, target);
     let ending = ending_offset(star, F::reduction(), src.len() < w);
-    step(f, pass.value ^ pass.offset ^ ending, Block::padded(page.as_slice(), w))
+    step(
+        f,
+        pass.value ^ pass.offset ^ ending,
+        Block::padded(page.as_slice(), w),
+    )
 }
 
 // The page in `src` to its ciphertext in `dst`, or back; then the page's part of the tag.
