@@ -78,8 +78,8 @@ fn main(rt: LibcRuntime) -> io::Result<()> {
     open(&rt, &mut omd, 1, &title, &mut buffer)?;
     open(&rt, &mut omd, 2, &chapter, &mut buffer)?;
     open(&rt, &mut omd, 3, &opening, &mut buffer)?;
-    rt.println("Page 3 once more, with one bit of its body changed, and then the shorter page 4:")?;
-    if let Some(b) = opening.get_mut(0) {
+    rt.println("Page 3 once more, with one bit of its tag changed, and then the shorter page 4:")?;
+    if let Some(b) = opening.last_mut() {
         *b ^= 1;
     }
     open(&rt, &mut omd, 3, &opening, &mut buffer)?;
