@@ -40,3 +40,7 @@ xor-all d s i h e =
           let k : length s ≤ i = omega arith in
           sym (take-append-drop i d) ∙ ap (λ z. take i d ++ z) (rw (drop-all i s k) (sym (xor-nil-r (drop i d)))) ∙ e
     ]
+
+-- ⊕ into a part that is not longer leaves nothing behind it
+pub xor-whole : (d s : List ℕ) → length d ≤ length s → xor-front d s ≡ xor d s
+xor-whole d s h = ap (λ t. xor d s ++ t) (drop-all (length s) d h) ∙ append-nil (xor d s)

@@ -15,7 +15,7 @@ pub fn clear(text: &mut [u8])
 }
 
 // Whether two parts are the same bytes. It looks at every byte, and does not stop at a difference.
-pub fn agree(a: &[u8], b: &[u8]) -> bool
+pub(crate) fn agree(a: &[u8], b: &[u8]) -> bool
     ensures { λ r. ⌜ Decides r (now (a .entry) ≡ now (b .entry)) ⌝ }
 {
     if a.len() != b.len() {
@@ -30,7 +30,8 @@ pub fn agree(a: &[u8], b: &[u8]) -> bool
 
 // XORs `src` into the front of `dst`, as far as both reach.
 pub fn xor_into(dst: &mut [u8], src: &[u8])
-    ensures { λ _. ⌜ now (dst .exit) ≡ xor (now (dst .entry)) (now (src .entry)) ++ drop (length (now (src .entry))) (now (dst .entry)) ⌝ }
+    ensures front { λ _. ⌜ now (dst .exit) ≡ xor (now (dst .entry)) (now (src .entry)) ++ drop (length (now (src .entry))) (now (dst .entry)) ⌝ }
+    ensures whole { λ _. ⌜ (length (now (dst .entry)) ≤ length (now (src .entry)) → now (dst .exit) ≡ xor (now (dst .entry)) (now (src .entry))) ⌝ }
 {
     let n = dst.len().min(src.len());
     for i in 0..n {
@@ -39,7 +40,7 @@ pub fn xor_into(dst: &mut [u8], src: &[u8])
 }
 
 // Moves all bits one place to the left.
-pub fn shift_left(x: &mut [u8])
+pub(crate) fn shift_left(x: &mut [u8])
     ensures { λ _. ⌜ now (x .exit) ≡ shifted (now (x .entry)) ⌝ }
 {
     for i in 0..x.len() {
@@ -49,7 +50,7 @@ pub fn shift_left(x: &mut [u8])
 }
 
 // `part` filled to the length of `out` by 80 and zeros; a part of that length stays as it is.
-pub fn pad_into(out: &mut [u8], part: &[u8])
+pub(crate) fn pad_into(out: &mut [u8], part: &[u8])
     requires { ⌜ length (now part) ≤ length (now out) ⌝ }
     ensures { λ _. ⌜ now (out .exit) ≡ padded (length (now (out .entry))) (now (part .entry)) ⌝ }
 {
@@ -62,7 +63,7 @@ pub fn pad_into(out: &mut [u8], part: &[u8])
 }
 
 // `t` as a number that fills `out`.
-pub fn number_into(out: &mut [u8], t: usize)
+pub(crate) fn number_into(out: &mut [u8], t: usize)
     ensures { λ _. ⌜ now (out .exit) ≡ digits (length (now (out .entry))) t ⌝ }
 {
     let mut rest = t;

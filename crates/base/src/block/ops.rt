@@ -146,11 +146,10 @@ impl Block {
         ensures long { λ r. ⌜ length (text r) ≡ length (text self) ⌝ }
     {
         let shifted = self.shifted();
-        if self.top_bit() {
-            shifted ^ Block::number(feedback as usize, self.len())
-        } else {
-            shifted
+        if !self.top_bit() {
+            return shifted;
         }
+        shifted ^ Block::number(feedback as usize, self.len())
     }
 }
 

@@ -58,8 +58,17 @@ impl<F: Compression> Omd<F> {
         Ok(())
     }
 
+    // Fills the table anew: L[0] is 4·L*.
+    fn refill(&mut self)
+        ensures kept { λ _. ⌜ value (now (self .exit) .f) ≡ value (now (self .entry) .f) ⌝ }
+        ensures same { λ _. ⌜ now (self .exit) .«tag_len» ≡ now (self .entry) .«tag_len» ⌝ }
+        ensures filled { λ _. ⌜ Filled width feedback 2 (star width (value (now (self .entry) .f))) (now (self .exit) .table) ⌝ }
+    {
+        self.table = OffsetTable::filled(&mut self.f, 2);
+    }
+
     // The page in `src` to its ciphertext in `dst`, or back; then the block whose first bytes are
-    // the tag. The table is filled anew.
+    // the tag.
     fn run(
         &mut self,
         direction: Direction,
@@ -79,7 +88,7 @@ impl<F: Compression> Omd<F> {
         ensures long { λ r. ⌜ length (text r) ≡ width ⌝ }
     {
         let tag_len = self.tag_len();
-        self.table = OffsetTable::filled(&mut self.f, 2);
+        self.refill();
         let sum = sum_ad(&mut self.f, &self.table, ad);
         let start = begin(&mut self.f, &self.table, tag_len, nonce);
         run_page(&mut self.f, &self.table, direction, start, src, dst) ^ sum
