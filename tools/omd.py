@@ -1,5 +1,5 @@
 #!/usr/bin/env python3
-"""OMD over the function Mixer, written from docs/MODES.md alone.
+"""OMD over the function Mixer, written from docs/MODES.md and without the proved code of OMD.
 
 It prints what the program mode_vectors has to print:
 
@@ -12,6 +12,7 @@ FEEDBACK = 0x8D05
 PAGES = [0, 1, 47, 48, 49, 95, 96, 97, 143, 200, 480]
 ADS = [0, 1, 95, 96, 97, 192, 300]
 TAGS = [4, 47, 48]
+LONG_PAGE = 3120  # 65 blocks: from the 64th on the offsets take in the feedback number
 NONCE = bytes(range(0x10, 0x1C))
 LONG_NONCE = bytes(range(0x01, 0x20))
 
@@ -124,6 +125,7 @@ def main():
     for tau in TAGS:
         show(tau, NONCE, 97, 97)
     show(16, LONG_NONCE, 97, 97)
+    show(16, NONCE, 97, LONG_PAGE)
 
 
 if __name__ == "__main__":

@@ -20,12 +20,21 @@ const ADS: [usize; 7] = [0, 1, 95, 96, 97, 192, 300];
 
 const TAGS: [usize; 3] = [4, 47, 48];
 
+// From the 64th block of a page on, its offsets take in the feedback number: 65 blocks.
+const LONG_PAGE: usize = 3120;
+
 // The lengths of one case, in bytes.
 #[derive(Clone, Copy)]
 struct Case {
     tag: usize,
     ad: usize,
     page: usize,
+}
+
+impl Case {
+    fn of(tag: usize, ad: usize, page: usize) -> Self {
+        Case { tag, ad, page }
+    }
 }
 
 // `n` bytes: the first is `start`, and each next one is larger by `step`, modulo 256.
@@ -45,17 +54,16 @@ fn refused(heap: Global, e: Refusal) -> Result<String, AllocError> {
 
 // Whether `body` opens to `page`.
 fn opens(
-    heap: Global,
     omd: &mut Omd<Mixer>,
     nonce: &[u8],
     ad: &[u8],
     body: &[u8],
     page: &[u8],
-) -> Result<bool, AllocError> {
-    let mut out = vec![in heap; 0; ROOM]?;
-    match omd.open(nonce, ad, body, &mut out) {
-        Ok(n) => Ok(&out[0..n] == page),
-        Err(_) => Ok(false),
+    room: &mut [u8],
+) -> bool {
+    match omd.open(nonce, ad, body, room) {
+        Ok(n) => &room[0..n] == page,
+        Err(_) => false,
     }
 }
 
@@ -66,13 +74,13 @@ fn answer(
     nonce: &[u8],
     ad: &[u8],
     page: &[u8],
+    room: &mut [u8],
 ) -> Result<String, AllocError> {
-    let mut room = vec![in heap; 0; ROOM]?;
-    match omd.seal(nonce, ad, page, &mut room) {
+    match omd.seal(nonce, ad, page, room) {
         Ok(n) => {
-            let body = &room[0..n];
-            if opens(heap, omd, nonce, ad, body, page)? {
-                to_hex(heap, body)
+            let body = Vec::from_slice(heap, &room[0..n])?;
+            if opens(omd, nonce, ad, &body, page, room) {
+                to_hex(heap, &body)
             } else {
                 String::from_str(heap, "differs")
             }
@@ -88,7 +96,8 @@ fn told(heap: Global, nonce: &[u8], case: Case) -> Result<String, AllocError> {
         Ok(()) => {
             let ad = row(heap, case.ad, 5, 11)?;
             let page = row(heap, case.page, 3, 7)?;
-            answer(heap, &mut omd, nonce, &ad, &page)
+            let mut room = vec![in heap; 0; ROOM]?;
+            answer(heap, &mut omd, nonce, &ad, &page, &mut room)
         }
         Err(e) => refused(heap, e),
     }
@@ -96,13 +105,17 @@ fn told(heap: Global, nonce: &[u8], case: Case) -> Result<String, AllocError> {
 
 fn show(rt: &LibcRuntime, nonce: &[u8], case: Case) -> io::Result<()> {
     let text = told(rt.alloc(), nonce, case)?;
-    println!(rt, "tag {} ad {} page {}: {text}", case.tag, case.ad, case.page)
+    println!(
+        rt,
+        "tag {} ad {} page {}: {text}",
+        case.tag, case.ad, case.page
+    )
 }
 
 fn show_lengths(rt: &LibcRuntime, nonce: &[u8]) -> io::Result<()> {
     for page in PAGES {
         for ad in ADS {
-            show(rt, nonce, Case { tag: 16, ad, page })?;
+            show(rt, nonce, Case::of(16, ad, page))?;
         }
     }
     Ok(())
@@ -110,7 +123,7 @@ fn show_lengths(rt: &LibcRuntime, nonce: &[u8]) -> io::Result<()> {
 
 fn show_tags(rt: &LibcRuntime, nonce: &[u8]) -> io::Result<()> {
     for tag in TAGS {
-        show(rt, nonce, Case { tag, ad: 97, page: 97 })?;
+        show(rt, nonce, Case::of(tag, 97, 97))?;
     }
     Ok(())
 }
@@ -120,5 +133,6 @@ fn main(rt: LibcRuntime) -> io::Result<()> {
     let long_nonce = row(rt.alloc(), 31, 0x01, 1)?;
     show_lengths(&rt, &nonce)?;
     show_tags(&rt, &nonce)?;
-    show(&rt, &long_nonce, Case { tag: 16, ad: 97, page: 97 })
+    show(&rt, &long_nonce, Case::of(16, 97, 97))?;
+    show(&rt, &nonce, Case::of(16, 97, LONG_PAGE))
 }
