@@ -1,13 +1,13 @@
 -- Two parts are compared bit by bit.
 use mathlib.Core.Path.{_≡_, refl, sym, _∙_, ap, ap₂}
-use mathlib.Core.Bool.{true}
+use mathlib.Core.Bool.{true, false}
 use mathlib.Core.List.{List, [], _∷_, _++_}
 use Prim.Native.Nat.{ℕ, _+_, _<_, _≤_}
 use native.Mathlib.Omega.{arith}
 use lib.Bits.{bitOr, bitXor, bitAnd, or-add-and, and-le-l, and-le-r, xor-assoc, xor-self, xor-zero-r, xor-zero-l}
 use lib.Dec.{eqb}
 use lib.ListN.{length, take, getD}
-use Rattle.std.proofs.shelf.Lists.{take-more, take-all, same-from-push}
+use Rattle.std.proofs.shelf.Lists.{take-more, take-all, same-from-push, length-take}
 use Rattle.std.proofs.shelf.Ways.{decides-eqb}
 use Rattle.std.specs.Orderings.{Decides}
 
@@ -38,3 +38,10 @@ told-all a b i d h l t =
     let ta = take-all i a h in
     let tb = take-all i b (omega arith) in
     (λ e. sym ta ∙ t .0 (q .0 e) ∙ tb, λ e. q .1 (t .1 (ta ∙ e ∙ sym tb)))
+
+-- a part that is longer than t does not begin it
+pub too-long : (t part : List ℕ) → length t < length part → Decides false (take (length part) t ≡ part)
+too-long t part h = (
+  λ e. absurd (let z : _≡_ {A = ℕ} 0 1 = cc in omega arith),
+  λ e. absurd (omega (arith, ap length e, length-take (length part) t)),
+)

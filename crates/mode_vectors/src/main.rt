@@ -1,5 +1,5 @@
 // Seals pages by OMD over the function Mixer, opens each body again, and prints the bodies.
-// tools/omd.py, which is written from docs/MODES.md alone, prints the same lines.
+// tools/omd.py, a second program written from docs/MODES.md, prints the same lines.
 use base::refusal::Refusal;
 use mixer::Mixer;
 use mixer::MixerCompression;

@@ -2,4 +2,4 @@
 // `omd` is the product's surface. `parts` is internal.
 // Read first: specs/Omd.antt, beside the text of OMD 1.0.
 pub mod omd;
-pub mod parts;
+mod parts;

@@ -23,7 +23,12 @@ use frames::sums::hash;
 use frames::sums::sum_front;
 
 // D(1) and H(1).
-pub fn begin<F: Compression>(f: &mut F, table: &OffsetTable, tag_len: usize, nonce: &[u8]) -> Pass
+pub(crate) fn begin<F: Compression>(
+    f: &mut F,
+    table: &OffsetTable,
+    tag_len: usize,
+    nonce: &[u8],
+) -> Pass
     requires table { ⌜ Wide width (now table) ⌝ }
     requires tag { ⌜ «tag_len» ≤ 64 ⌝ }
     requires nonce { ⌜ length (now nonce) ≤ 31 ⌝ }
@@ -85,7 +90,7 @@ fn last_block<F: Compression>(
 }
 
 // The page in `src` to its ciphertext in `dst`, or back; then the page's part of the tag.
-pub fn run_page<F: Compression>(
+pub(crate) fn run_page<F: Compression>(
     f: &mut F,
     table: &OffsetTable,
     direction: Direction,
@@ -125,7 +130,7 @@ fn ad_end(table: &OffsetTable, short: bool, pass: Pass) -> Block
 }
 
 // The associated data's part of the tag.
-pub fn sum_ad<F: Compression>(f: &mut F, table: &OffsetTable, ad: &[u8]) -> Block
+pub(crate) fn sum_ad<F: Compression>(f: &mut F, table: &OffsetTable, ad: &[u8]) -> Block
     requires table { ⌜ Filled width feedback 2 (star width (value (now f))) (now table) ⌝ }
     requires ad { ⌜ length (now ad) ≤ 1024 ⌝ }
     ensures kept { λ _. ⌜ value (now (f .exit)) ≡ value (now (f .entry)) ⌝ }

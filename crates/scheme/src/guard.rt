@@ -36,7 +36,7 @@ impl Drop for Guard<'_> {
 }
 
 // Opens `body` into `page`, which is zeroed unless the tags agree. Here alone a guard is made.
-pub fn open_into<M: Mode>(
+pub(crate) fn open_into<M: Mode>(
     m: &mut M,
     nonce: &[u8],
     ad: &[u8],

@@ -1,8 +1,8 @@
 // A scheme: what seals pages and opens them, known by its meaning alone.
-// The trait `Scheme` belongs to the product's surface. `limits`, `mode` and `guard` are internal:
-// what all modes share of sealing and opening; they ask lengths of their callers.
+// The trait `Scheme`, `Limits` and `End` belong to the product's surface. `mode` is internal: what
+// all modes share of sealing and opening. A mode's two functions ask lengths of their callers.
 // Read first: specs/Meaning.antt and specs/Answers.antt, then scheme.rt.
-pub mod guard;
+mod guard;
 pub mod limits;
 pub mod mode;
 pub mod scheme;

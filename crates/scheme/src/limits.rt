@@ -64,7 +64,7 @@ fn check_input(limits: Limits, nonce: &[u8], ad: &[u8]) -> Result<(), Refusal>
 }
 
 // The length of the body of a page that may be sealed into `room` bytes.
-pub fn may_seal(
+pub(crate) fn may_seal(
     limits: Limits,
     nonce: &[u8],
     ad: &[u8],
@@ -87,7 +87,7 @@ pub fn may_seal(
 }
 
 // The length of the page in a body that may be opened into `room` bytes.
-pub fn may_open(
+pub(crate) fn may_open(
     limits: Limits,
     nonce: &[u8],
     ad: &[u8],
@@ -114,7 +114,7 @@ pub fn may_open(
 
 impl End {
     // The tag of a body that is not shorter than a tag.
-    pub fn tag_part(self, body: &[u8], tag: usize) -> &[u8]
+    pub(crate) fn tag_part(self, body: &[u8], tag: usize) -> &[u8]
         requires { ⌜ tag ≤ length (now body) ⌝ }
         ensures part { λ r. ⌜ now r ≡ tag-part self tag (now (body .entry)) ⌝ }
         ensures long { λ r. ⌜ length (now r) ≡ tag ⌝ }

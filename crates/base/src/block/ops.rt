@@ -110,12 +110,14 @@ impl Block {
         out.copy_from_slice(&self.as_slice()[0..n]);
     }
 
-    // Whether the first bytes are `part`, which is not longer.
+    // Whether the first bytes are `part`.
     pub fn begins_with(&self, part: &[u8]) -> bool
-        requires { ⌜ length (now part) ≤ length (text (now self)) ⌝ }
         ensures { λ r. ⌜ Decides r (take (length (now (part .entry))) (text (now (self .entry))) ≡ now (part .entry)) ⌝ }
     {
         let n = part.len();
+        if n > self.len() {
+            return false;
+        }
         agree(&self.as_slice()[0..n], part)
     }
 

@@ -1,11 +1,7 @@
-use native.Mathlib.Omega.{arith}
 use Rattle.base.specs.Text.{text}
 use Rattle.scheme.specs.Meaning.{mode}
 use Rattle.scheme.proofs.Guarding.{agreed}
 use Rattle.scheme.proofs.guard.open_into.Needs as need
-
-pub begins-with-requires : need.begins-with-requires
-begins-with-requires g c κs = omega (arith, c .recover-tag .ensures .recovered .long)
 
 pub returns : need.returns
 returns g c =

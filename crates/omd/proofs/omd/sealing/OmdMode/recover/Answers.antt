@@ -19,7 +19,6 @@ returns g c =
       tag = ap (λ t. min t w) (c .run .ensures .same);
       kept = ap₂ (λ V t. sealed w (m .feedback) V (min t w)) (c .run .ensures .kept) (c .run .ensures .same);
       recovered = record {
-        long = omega (arith, c .run .ensures .long);
         tells = tells w (m .feedback) (omega arith) (m .value (s .f)) (q .sized (s .f)) (tag-length w s) (omega arith) (c .args .nonce .now) (c .args .ad .now) (length (c .args .page .now)) (c .args .body .now) (c .run .last .dst) (text (c .run .result)) (omega arith) (c .pre .body) (c .run .ensures .cipher) (c .run .ensures .tag);
         only = only w (m .feedback) (omega arith) (m .value (s .f)) (q .sized (s .f)) (tag-length w s) (omega arith) (c .args .nonce .now) (c .args .ad .now) (length (c .args .page .now)) (c .args .body .now) (c .run .last .dst) (text (c .run .result)) (omega arith) (c .pre .body) (c .run .ensures .cipher) (c .run .ensures .tag);
       };
