@@ -8,7 +8,7 @@ ghost use Rattle.std.specs.Vec.{refused};
 ghost use Rattle.std.specs.declared.option.Option.{Option};
 ghost use Rattle.std.specs.declared.option.Option.the-variants.{Some};
 ghost use Rattle.base.specs.Refusals.{refusal};
-ghost use Rattle.scheme.specs.Meaning.{tag-part};
+ghost use Rattle.scheme.specs.Meaning.{mode-limits, tag-part};
 ghost use Rattle.scheme.specs.Answers.{Fault, Input-fits, May-open, May-seal, input-fault, open-fault, said, seal-fault};
 use base::refusal::Cause;
 use base::refusal::Refusal;
@@ -19,9 +19,9 @@ pub const NONCE_MIN: usize = 12;
 pub const NONCE_MAX: usize = 31;
 
 // What every mode takes.
-pub const LONGEST_AD: usize = 1024;
+const LONGEST_AD: usize = 1024;
 
-pub const LONGEST_PAGE: usize = 4096;
+const LONGEST_PAGE: usize = 4096;
 
 // The tag's length, the longest associated data and the longest page.
 #[derive(Clone, Copy)]
@@ -36,6 +36,17 @@ pub struct Limits {
 pub enum End {
     Front,
     Back,
+}
+
+// The limits of a mode, by its tag's length.
+pub fn limits_of(tag: usize) -> Limits
+    ensures { λ r. ⌜ r ≡ mode-limits tag ⌝ }
+{
+    Limits {
+        tag,
+        ad: LONGEST_AD,
+        page: LONGEST_PAGE,
+    }
 }
 
 // A refusal by a mode, which is layer 1.

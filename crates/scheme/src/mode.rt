@@ -5,15 +5,13 @@ ghost use lib.ListN.{length};
 ghost use mathlib.Core.List.{List};
 ghost use Rattle.std.specs.Vec.{refused};
 ghost use Rattle.base.specs.Text.{text};
-ghost use Rattle.scheme.specs.Meaning.{mode, mode-limits};
+ghost use Rattle.scheme.specs.Meaning.{mode};
 ghost use Rattle.scheme.specs.Answers.{Sealed, Opened};
 ghost use Rattle.scheme.specs.Recovery.{Recovered};
 ghost use Rattle.scheme.specs.declared.limits.End.{End};
 use crate::guard::open_into;
 use crate::limits::End;
-use crate::limits::LONGEST_AD;
-use crate::limits::LONGEST_PAGE;
-use crate::limits::Limits;
+use crate::limits::limits_of;
 use crate::limits::may_open;
 use crate::limits::may_seal;
 use base::block::Block;
@@ -58,17 +56,6 @@ pub trait Mode {
         ensures tag { λ _. ⌜ tag (now (self .exit)) ≡ tag (now (self .entry)) ⌝ }
         ensures kept { λ _. ⌜ E (now (self .exit)) ≡ E (now (self .entry)) ⌝ }
         ensures recovered { λ r. ⌜ Recovered (mode (tag (now (self .entry))) end (E (now (self .entry)))) (now (nonce .entry)) (now (ad .entry)) (now (body .entry)) (now (page .exit)) (text r) ⌝ };
-}
-
-// The limits of any mode.
-fn limits_of(tag: usize) -> Limits
-    ensures { λ r. ⌜ r ≡ mode-limits tag ⌝ }
-{
-    Limits {
-        tag,
-        ad: LONGEST_AD,
-        page: LONGEST_PAGE,
-    }
 }
 
 // Seals a page by a mode: sealing of any scheme that is a mode.

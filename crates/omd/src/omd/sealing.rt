@@ -25,10 +25,9 @@ use compression::compression::Compression;
 use frames::offsets::OffsetTable;
 use frames::pass::Direction;
 use scheme::limits::End;
-use scheme::limits::LONGEST_AD;
-use scheme::limits::LONGEST_PAGE;
 use scheme::limits::Limits;
 use scheme::limits::by_mode;
+use scheme::limits::limits_of;
 use scheme::mode::Mode;
 use scheme::mode::open_by;
 use scheme::mode::seal_by;
@@ -129,11 +128,7 @@ pub impl<F: Compression> Scheme for Omd<F> as OmdScheme {
     ghost layers = { λ _ _ layer. eqb layer 1 };
 
     fn limits(&self) -> Limits {
-        Limits {
-            tag: OmdMode::tag_len(self),
-            ad: LONGEST_AD,
-            page: LONGEST_PAGE,
-        }
+        limits_of(OmdMode::tag_len(self))
     }
 
     fn tag<'a>(&self, body: &'a [u8]) -> Option<&'a [u8]> {
