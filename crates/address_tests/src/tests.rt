@@ -4,7 +4,7 @@ use address::address::Addressed;
 use base::refusal::{Cause, Refusal};
 use compression::keyed::Keyed;
 use scheme::scheme::Scheme;
-use sha2::sha256::Sha256;
+use keyed_sha2::sha256::Sha256;
 use std::process::Abort;
 use two_pass::modes::Counter;
 

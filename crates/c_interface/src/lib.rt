@@ -2,16 +2,18 @@
 // a length; the pointer must be good for that length, and the output must overlap no input.
 // Each answers 0, or the number of the cause for which it refused.
 // Read first: specs/Codes.antt, and `Keyed` in the crate compression.
+#![tactic(auto)]
+
 ghost use Rattle.std.specs.Prelude.{◌≡◌, length, is_ok, if◌then◌else◌, nat_eq};
 ghost use Rattle.fips180.specs.Words.{sha256, sha512};
-ghost use Rattle.sha2.specs.Keys.{keyed};
+ghost use Rattle.keyed_sha2.specs.Keys.{keyed};
 ghost use Rattle.c_interface.specs.Codes.{keyed_answer, code};
 
 use base::refusal::Refusal;
 use compression::compression::Compression;
 use compression::keyed::Keyed;
-use sha2::sha256::Sha256;
-use sha2::sha512::Sha512;
+use keyed_sha2::sha256::Sha256;
+use keyed_sha2::sha512::Sha512;
 
 // F(h, m) under a key, of a function made for this call.
 fn compress_once<F: Keyed + Drop>(

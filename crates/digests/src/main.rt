@@ -1,10 +1,12 @@
 // Digests of SHA-256 and SHA-512 for many lengths, made from the keyed compression alone: the first
 // half of each block is set as the key. tools/digests.sh makes the expected output by other programs.
+#![tactic(auto)]
+
 use base::refusal::Refusal;
 use compression::compression::Compression;
 use compression::keyed::Keyed;
-use sha2::sha256::Sha256;
-use sha2::sha512::Sha512;
+use keyed_sha2::sha256::Sha256;
+use keyed_sha2::sha512::Sha512;
 use show::to_hex;
 use std::alloc::{AllocError, Global};
 use std::io;

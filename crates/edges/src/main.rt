@@ -1,5 +1,7 @@
 // Calls at the edges of the limits: each line shows a call by its lengths, its answer, and how many
 // bytes of the output it changed.
+#![tactic(auto)]
+
 use base::refusal::Refusal;
 use compression::compression::Compression;
 use compression::trial::Trial;

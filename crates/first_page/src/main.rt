@@ -1,4 +1,6 @@
 // Seals a small book, opens it into one page buffer, and shows what a refused page leaves there.
+#![tactic(auto)]
+
 use compression::trial::Trial;
 use omd::omd::Omd;
 use scheme::scheme::Scheme;

@@ -1,10 +1,12 @@
 // Keys at the edges of their lengths, and parts that have not the width of SHA-256 or SHA-512: each
 // line shows a call by its lengths and its answer.
+#![tactic(auto)]
+
 use base::refusal::Refusal;
 use compression::compression::Compression;
 use compression::keyed::Keyed;
-use sha2::sha256::Sha256;
-use sha2::sha512::Sha512;
+use keyed_sha2::sha256::Sha256;
+use keyed_sha2::sha512::Sha512;
 use std::alloc::{AllocError, Global};
 use std::io;
 

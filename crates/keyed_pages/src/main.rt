@@ -1,12 +1,14 @@
 // Seals a page over SHA-256 and over SHA-512, opens it, and shows what a refused page leaves in the
 // buffer. Then a page sealed for two machines.
+#![tactic(auto)]
+
 use address::address::Addressed;
 use compression::compression::Compression;
 use compression::keyed::Keyed;
 use omd::omd::Omd;
 use scheme::scheme::Scheme;
-use sha2::sha256::Sha256;
-use sha2::sha512::Sha512;
+use keyed_sha2::sha256::Sha256;
+use keyed_sha2::sha512::Sha512;
 use show::{to_cells, to_hex};
 use std::io;
 use two_pass::modes::Counter;

@@ -3,6 +3,8 @@
 // Mixer has no key and hides nothing. Unlike the trial function its L* is not zero, so that the
 // masks of a mode show in its bodies.
 // Read first: specs/Mixer.antt.
+#![tactic(auto)]
+
 ghost use Rattle.std.specs.Prelude.{◌≡◌, length};
 ghost use Rattle.std.proofs.Common.{◌∙◌, arith, rules};
 ghost use Rattle.mixer.specs.Mixer.{mixed};

@@ -1,5 +1,7 @@
 // Reads cases by their lengths, one a line, seals each, opens the body again, and prints the body.
 // tools/modes.py, a second program written from docs/MODES.md alone, prints the same lines.
+#![tactic(auto)]
+
 use base::refusal::Refusal;
 use compression::compression::Compression;
 use compression::keyed::Keyed;
@@ -7,8 +9,8 @@ use compression::trial::Trial;
 use mixer::Mixer;
 use omd::omd::Omd;
 use scheme::scheme::Scheme;
-use sha2::sha256::Sha256;
-use sha2::sha512::Sha512;
+use keyed_sha2::sha256::Sha256;
+use keyed_sha2::sha512::Sha512;
 use show::to_hex;
 use std::alloc::{AllocError, Global};
 use std::io;

@@ -4,7 +4,7 @@
 use Rattle.std.specs.Prelude.{ℕ, zero, suc, ◌+◌, ◌*◌, ◌%◌, List, [], ◌∷◌, ◌≡◌}
 use Rattle.base.specs.Bytes.{digits}
 use Rattle.fips180.specs.Words.{Sizes, sha256, sha512}
-use Rattle.sha2.specs.Keys.{keyed}
+use Rattle.keyed_sha2.specs.Keys.{keyed}
 use Rattle.omd.specs.Omd.{sealed as by-omd}
 use Rattle.two_pass.specs.TwoPass.{sealed as by-two-pass}
 use Rattle.two_pass.specs.declared.keystream.Keystream.{Keystream}

@@ -1,5 +1,7 @@
 // Seals pages by OMD over the function Mixer, opens each body again, and prints the bodies.
 // tools/omd.py, a second program written from docs/MODES.md, prints the same lines.
+#![tactic(auto)]
+
 use base::refusal::Refusal;
 use mixer::Mixer;
 use omd::omd::Omd;

@@ -2,6 +2,8 @@
 // The trait `Scheme`, `Limits` and `End` belong to the product's surface. `mode` is internal: what
 // all modes share of sealing and opening. A mode's two functions ask lengths of their callers.
 // Read first: specs/Meaning.antt and specs/Answers.antt, then scheme.rt.
+#![tactic(auto)]
+
 mod guard;
 pub mod limits;
 pub mod mode;

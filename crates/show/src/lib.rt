@@ -1,4 +1,6 @@
 // How programs show bytes.
+#![tactic(auto)]
+
 ghost use Rattle.std.specs.Prelude.{◌≡◌, ℕ, ◌<◌, map, IfOk, string_bytes};
 ghost use Rattle.show.specs.Shown.{cell, digit, hex};
 

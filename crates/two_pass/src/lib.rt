@@ -3,6 +3,8 @@
 // `modes` is the product's surface. `keystream` tells the two modes apart, for their types alone.
 // `parts` is internal.
 // Read first: specs/TwoPass.antt.
+#![tactic(auto)]
+
 pub mod keystream;
 pub mod modes;
 mod parts;

@@ -1,5 +1,7 @@
 // The worked examples of serial and counter in docs/MODES.md: of the definitions by one computation,
 // and of the code by tests through the public calls.
+#![tactic(auto)]
+
 ghost use Rattle.std.specs.Prelude.{◌≡◌, true};
 ghost use Rattle.two_pass_examples.specs.Examples.{examples};
 

@@ -8,5 +8,5 @@ pub returns : goal.returns
 returns c =
     let x = text c.args.self in
     let fb = c.args.feedback in
-    let e : text c.bitxor.result ≡ double fb x = c.bitxor.ensures.is ∙ rw (c.shifted-shifted.ensures.block, c.number.ensures.block, c.len.ensures.value) (ap (λ b. cond b (xor (shifted x) (digits (length x) fb)) (shifted x)) (sym c.if-not-top-bit.false ∙ c.top-bit.ensures)) in
+    let e : text c.bitxor.result ≡ double fb x = c.bitxor.ensures.is ∙ rw (c.shifted-shifted.ensures.block, c.number.ensures.block, c.len.ensures.value) (ap (λ b. cond b (xor (shifted x) (digits (length x) fb)) (shifted x)) (sym c.if-not-top_bit.false ∙ c.top_bit.ensures)) in
     record { block = e; long = ap length e ∙ length-double fb x }

@@ -7,4 +7,4 @@ use Rattle.base.proofs.block.Block.filled.Goals as goal
 
 pub returns : goal.returns
 unfolding text
-returns c = let e = front_made c.args.n _ _ (λ m. filled m c.args.part.now) c.requires.fits c.fill-into.ensures (omega arith) in record { block = e; long = ap length e ∙ length-filled c.args.n c.args.part.now }
+returns c = let e = front_made c.args.n _ _ (λ m. filled m c.args.part.now) c.requires.fits c.fill_into.ensures (omega arith) in record { block = e; long = ap length e ∙ length-filled c.args.n c.args.part.now }

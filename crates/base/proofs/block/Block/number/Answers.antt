@@ -7,4 +7,4 @@ use Rattle.base.proofs.block.Block.number.Goals as goal
 
 pub returns : goal.returns
 unfolding text
-returns c = let e = front_made c.args.n _ _ (λ m. digits m c.args.t) c.requires c.number-into.ensures (omega arith) in record { block = e; long = ap length e ∙ length-digits c.args.n c.args.t }
+returns c = let e = front_made c.args.n _ _ (λ m. digits m c.args.t) c.requires c.number_into.ensures (omega arith) in record { block = e; long = ap length e ∙ length-digits c.args.n c.args.t }

@@ -10,5 +10,5 @@ pub returns : goal.returns
 unfolding text
 returns c =
     let x = take c.args.self.len c.args.self.bytes in
-    let e = front_text _ _ _ _ (c.shift-left.ensures ∙ ap (λ n. shifted (take n c.args.self.bytes)) (from_zero c.args.self.len)) (omega arith) in
+    let e = front_text _ _ _ _ (c.shift_left.ensures ∙ ap (λ n. shifted (take n c.args.self.bytes)) (from_zero c.args.self.len)) (omega arith) in
     record { block = e; long = ap length e ∙ length-digits (length x) (2 * number x) }

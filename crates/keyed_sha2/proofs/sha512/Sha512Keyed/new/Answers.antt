@@ -1,6 +1,6 @@
 use mathlib.Core.Path.{refl}
 use Rattle.base.specs.Bytes.{filled}
-use Rattle.sha2.proofs.sha512.Sha512Keyed.new.Goals as goal
+use Rattle.keyed_sha2.proofs.sha512.Sha512Keyed.new.Goals as goal
 
 pub returns : goal.returns
 unfolding filled

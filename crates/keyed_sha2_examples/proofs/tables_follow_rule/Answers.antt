@@ -1,8 +1,8 @@
 use Rattle.std.proofs.Common.{refl}
 use Rattle.fips180.specs.Constants.{constants256, constants512}
-use Rattle.sha2_examples.specs.CubeRoots.{primes}
-use Rattle.sha2_examples.proofs.Tables.{at}
-use Rattle.sha2_examples.proofs.tables_follow_rule.Goals as goal
+use Rattle.keyed_sha2_examples.specs.CubeRoots.{primes}
+use Rattle.keyed_sha2_examples.proofs.Tables.{at}
+use Rattle.keyed_sha2_examples.proofs.tables_follow_rule.Goals as goal
 
 pub returns : goal.returns
 unfolding constants256 constants512 primes

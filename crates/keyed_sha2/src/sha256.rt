@@ -1,7 +1,7 @@
 ghost use Rattle.std.specs.Prelude.{List, ℕ};
 ghost use Rattle.fips180.specs.Words.{sha256 as sizes, sha256};
 ghost use Rattle.fips180.specs.Compression.{half_fixed};
-ghost use Rattle.sha2.specs.Keys.{keyed};
+ghost use Rattle.keyed_sha2.specs.Keys.{keyed};
 ghost use Rattle.fips180.proofs.Compressed.{length-half_fixed, Bytes-half_fixed};
 ghost use Rattle.std.proofs.Common.{rules};
 
