@@ -41,10 +41,10 @@ pub(crate) fn open_into<M: Mode>(
     requires nonce { length nonce.now ≤ 31 }
     requires ad { length ad.now ≤ 1024 }
     requires page { length page.old ≤ 4096 }
-    requires body { length body.now ≡ length page.old + tag m.old }
-    ensures tag { tag m.new ≡ tag m.old }
-    ensures kept { E m.new ≡ E m.old }
-    ensures cases { MatchResult result (λ _. E m.old nonce.now ad.now page.new ≡ body.now) (λ e. (e ≡ refusal NotGenuine 1 0) × (page.new ≡ zeros (length page.old)) × ((p : List ℕ) → E m.old nonce.now ad.now p ≢ body.now)) }
+    requires body { length body.now ≡ length page.old + M.tag m.old }
+    ensures tag { M.tag m.new ≡ M.tag m.old }
+    ensures kept { M.E m.new ≡ M.E m.old }
+    ensures cases { MatchResult result (λ _. M.E m.old nonce.now ad.now page.new ≡ body.now) (λ e. (e ≡ refusal NotGenuine 1 0) × (page.new ≡ zeros (length page.old)) × ((p : List ℕ) → M.E m.old nonce.now ad.now p ≢ body.now)) }
 {
     let len = m.tag_len();
     let mut guard = Guard {

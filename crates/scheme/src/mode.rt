@@ -60,10 +60,10 @@ pub fn seal_by<M: Mode>(
     page: &[u8],
     out: &mut [u8],
 ) -> Result<usize, Refusal>
-    ensures tag { tag m.new ≡ tag m.old }
-    ensures kept { E m.new ≡ E m.old }
+    ensures tag { M.tag m.new ≡ M.tag m.old }
+    ensures kept { M.E m.new ≡ M.E m.old }
     ensures layer { IfErr result (λ e. e.layer ≡ 1) }
-    ensures sealed { Sealed (mode (tag m.old) end (E m.old)) nonce.now ad.now page.now out.old result out.new }
+    ensures sealed { Sealed (mode (M.tag m.old) M.end (M.E m.old)) nonce.now ad.now page.now out.old result out.new }
 {
     let limits = limits_of(m.tag_len());
     let n = may_seal(limits, nonce, ad, page, out.len())?;
@@ -79,10 +79,10 @@ pub fn open_by<M: Mode>(
     body: &[u8],
     out: &mut [u8],
 ) -> Result<usize, Refusal>
-    ensures tag { tag m.new ≡ tag m.old }
-    ensures kept { E m.new ≡ E m.old }
+    ensures tag { M.tag m.new ≡ M.tag m.old }
+    ensures kept { M.E m.new ≡ M.E m.old }
     ensures layer { IfErr result (λ e. e.layer ≡ 1) }
-    ensures opened { Opened (mode (tag m.old) end (E m.old)) nonce.now ad.now body.now out.old result out.new }
+    ensures opened { Opened (mode (M.tag m.old) M.end (M.E m.old)) nonce.now ad.now body.now out.old result out.new }
 {
     let limits = limits_of(m.tag_len());
     let n = may_open(limits, nonce, ad, body, out.len())?;
