@@ -10,5 +10,5 @@ returns g c =
     record {
       tag = c.recover-tag.ensures.tag;
       kept = c.recover-tag.ensures.kept;
-      cases = agreed (mode (m.tag s) m.end (m.E s)) c.args.nonce.now c.args.ad.now c.args.body.now c.recover-tag.new.page (text c.recover-tag.result) c.tag_part.result.now c.begins_with.result c.tag_end.result c.tag-len-len.result c.recover-tag.ensures.recovered c.tag_part.ensures.part c.tag_part.ensures.long c.tag_end.ensures c.tag-len-len.ensures c.begins_with.ensures c.if-not-guard.false _ _ c.drop-guard-2.ensures;
+      cases = agreed (mode (m.tag s) m.end (m.E s)) c.args.nonce.now c.args.ad.now c.args.body.now c.recover-tag.new.page (text c.recover-tag.result) c.tag_part.result.now c.begins_with.result c.tag_end.result c.tag_len-len.result c.recover-tag.ensures.recovered c.tag_part.ensures.part c.tag_part.ensures.long c.tag_end.ensures c.tag_len-len.ensures c.begins_with.ensures c.if-not-guard.false _ _ c.drop-guard-2.ensures;
     }

@@ -8,8 +8,8 @@ returns g c =
     let m = g.M.Mode in
     let s = c.args.m.now in
     record {
-      tag = c.open-into.ensures.tag;
-      kept = c.open-into.ensures.kept;
+      tag = c.open_into.ensures.tag;
+      kept = c.open_into.ensures.kept;
       layer = tt;
-      opened = gave (mode (m.tag s) m.end (m.E s)) c.limits-of-limits.result c.args.nonce.now c.args.ad.now c.args.body.now c.args.out.now c.open-into.new.page c.in-ok-n.n (c.limits-of-limits.ensures ∙ ap mode_limits c.tag-len.ensures) c.in-ok-n.ensures.says (omega arith) c.in-ok-open-into.ensures.cases (λ i. (c.type-inv.out i).fits);
+      opened = gave (mode (m.tag s) m.end (m.E s)) c.limits_of-limits.result c.args.nonce.now c.args.ad.now c.args.body.now c.args.out.now c.open_into.new.page c.in_ok-n.n (c.limits_of-limits.ensures ∙ ap mode_limits c.tag_len.ensures) c.in_ok-n.ensures.says (omega arith) c.in_ok-open_into.ensures.cases (λ i. (c.type_inv.out i).fits);
     }
