@@ -67,11 +67,11 @@ pub fn check_parts(width: usize, h: usize, m: usize, out: usize) -> Result<(), R
 
 // F of two blocks that have the width.
 pub fn step<F: Compression>(f: &mut F, h: Block, m: Block) -> Block
-    requires h { length (text h) ≡ width }
-    requires m { length (text m) ≡ width }
-    ensures kept { value f.new ≡ value f.old }
-    ensures block { text result ≡ value f.old (text h) (text m) }
-    ensures long { length (text result) ≡ width }
+    requires h { length (text h) ≡ F.width }
+    requires m { length (text m) ≡ F.width }
+    ensures kept { F.value f.new ≡ F.value f.old }
+    ensures block { text result ≡ F.value f.old (text h) (text m) }
+    ensures long { length (text result) ≡ F.width }
 {
     let w = F::block_len();
     let mut out = [0; 64];
