@@ -51,8 +51,8 @@ fn join(address: &[u8], ad: &[u8], all: &mut [u8]) -> usize
 impl<S: Scheme> Addressed<S> {
     // The scheme `below` for the machine at `address`.
     pub fn new(below: S, address: [u8; ADDRESS_LEN]) -> Self
-        ensures means { means meaning result ≡ addressed address (meaning below) }
-        ensures layers { names layers result ≡ address_layers (layers below) }
+        ensures means { means S.meaning result ≡ addressed address (S.meaning below) }
+        ensures layers { names S.layers result ≡ address_layers (S.layers below) }
     {
         Addressed { below, address }
     }
@@ -61,7 +61,7 @@ impl<S: Scheme> Addressed<S> {
     // length; or refuses associated data that is too long.
     fn prepare(&self, ad: &[u8], all: &mut [u8]) -> Result<usize, Refusal>
         requires { length all.old ≡ 1024 }
-        ensures { MatchResult result (λ k. Joined (meaning self.now.below) self.now.address ad.now all.new k) (λ e. TooLong (meaning self.now.below) self.now.address ad.now e) }
+        ensures { MatchResult result (λ k. Joined (S.meaning self.now.below) self.now.address ad.now all.new k) (λ e. TooLong (S.meaning self.now.below) self.now.address ad.now e) }
     {
         let longest = self.below.limits().ad;
         let address = cut_to(&self.address, longest);
@@ -84,10 +84,10 @@ impl<S: Scheme> Addressed<S> {
         out: &mut [u8],
     ) -> Result<usize, Refusal>
         ensures same { self.new.address ≡ self.old.address }
-        ensures kept { meaning self.new.below ≡ meaning self.old.below }
-        ensures stays { layers self.new.below ≡ layers self.old.below }
-        ensures layer { IfErr result (λ e. layers self.old.below e.cause e.layer ≡ true) }
-        ensures opened { Opened (meaning self.old.below) nonce.now ad.now body.now out.old result out.new }
+        ensures kept { S.meaning self.new.below ≡ S.meaning self.old.below }
+        ensures stays { S.layers self.new.below ≡ S.layers self.old.below }
+        ensures layer { IfErr result (λ e. S.layers self.old.below e.cause e.layer ≡ true) }
+        ensures opened { Opened (S.meaning self.old.below) nonce.now ad.now body.now out.old result out.new }
     {
         self.below.open(nonce, ad, body, out)
     }
@@ -101,10 +101,10 @@ impl<S: Scheme> Addressed<S> {
         out: &mut [u8],
     ) -> Result<usize, Refusal>
         ensures same { self.new.address ≡ self.old.address }
-        ensures kept { meaning self.new.below ≡ meaning self.old.below }
-        ensures stays { layers self.new.below ≡ layers self.old.below }
-        ensures layer { IfErr result (λ e. layers self.old.below e.cause e.layer ≡ true) }
-        ensures sealed { Sealed (meaning self.old.below) nonce.now ad.now page.now out.old result out.new }
+        ensures kept { S.meaning self.new.below ≡ S.meaning self.old.below }
+        ensures stays { S.layers self.new.below ≡ S.layers self.old.below }
+        ensures layer { IfErr result (λ e. S.layers self.old.below e.cause e.layer ≡ true) }
+        ensures sealed { Sealed (S.meaning self.old.below) nonce.now ad.now page.now out.old result out.new }
     {
         self.below.seal(nonce, ad, page, out)
     }

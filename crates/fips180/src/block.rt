@@ -14,7 +14,7 @@ impl<W: Word> State<W> {
     // From eight words in bytes.
     fn read(bytes: &[u8]) -> State<W>
         requires { length bytes.now ≡ W.Word.sizes.bytes * 8 }
-        ensures { values val result ≡ state_of (words sizes bytes.now) }
+        ensures { values W.val result ≡ state_of (words W.sizes bytes.now) }
     {
         State {
             a: W::read(bytes, 0),
@@ -31,7 +31,7 @@ impl<W: Word> State<W> {
     // The variable at its place.
     fn word(self, i: usize) -> W
         requires { i < 8 }
-        ensures { val result ≡ slice_index (listed (values val self)) i }
+        ensures { W.val result ≡ slice_index (listed (values W.val self)) i }
     {
         match i {
             0 => self.a,
@@ -48,7 +48,7 @@ impl<W: Word> State<W> {
     // As eight words in bytes.
     fn write(self, out: &mut [u8])
         requires { length out.old ≡ W.Word.sizes.bytes * 8 }
-        ensures { out.new ≡ flat_map (digits W.Word.sizes.bytes) (listed (values val self)) }
+        ensures { out.new ≡ flat_map (digits W.Word.sizes.bytes) (listed (values W.val self)) }
     {
         for i in 0..8 {
             self.word(i).write(out, i);
@@ -60,7 +60,7 @@ impl<W: Word> State<W> {
 fn load<W: Word>(w: &mut [W], at: usize, half: &[u8])
     requires room { at + 8 ≤ length w.old }
     requires half { length half.now ≡ W.Word.sizes.bytes * 8 }
-    ensures { take (at + 8) (map val w.new) ≡ take at (map val w.old) ++ words sizes half.now }
+    ensures { take (at + 8) (map W.val w.new) ≡ take at (map W.val w.old) ++ words W.sizes half.now }
 {
     for i in 0..8 {
         w[at + i] = W::read(half, i);
@@ -75,7 +75,7 @@ pub fn compress_halves<W: Word>(room: &mut [W], h: &[u8], left: &[u8], right: &[
     requires left { length left.now ≡ W.Word.sizes.bytes * 8 }
     requires right { length right.now ≡ W.Word.sizes.bytes * 8 }
     requires out { length out.old ≡ W.Word.sizes.bytes * 8 }
-    ensures { out.new ≡ half_fixed sizes left.now h.now right.now }
+    ensures { out.new ≡ half_fixed W.sizes left.now h.now right.now }
 {
     let start: State<W> = State::read(h);
     load(room, 0, left);

@@ -8,7 +8,7 @@ use crate::state::State;
 use crate::word::{Word, ch, maj};
 
 fn round<W: Word>(s: State<W>, k: W, w: W) -> State<W>
-    ensures { values val result ≡ turned sizes (values val s) (val k) (val w) }
+    ensures { values W.val result ≡ turned W.sizes (values W.val s) (W.val k) (W.val w) }
 {
     let t1 = s
         .h
@@ -32,7 +32,7 @@ fn round<W: Word>(s: State<W>, k: W, w: W) -> State<W>
 // The word of the schedule at t, from those before it.
 fn next_word<W: Word>(w: &[W], t: usize) -> W
     requires { (16 ≤ t) × (t ≤ length w.now) }
-    ensures { val result ≡ word_at sizes (map val w.now) t }
+    ensures { W.val result ≡ word_at W.sizes (map W.val w.now) t }
 {
     w[t - 2]
         .small_sigma1()
@@ -44,7 +44,7 @@ fn next_word<W: Word>(w: &[W], t: usize) -> W
 impl<W: Word> State<W> {
     // Word by word.
     fn plus(self, t: State<W>) -> State<W>
-        ensures { values val result ≡ added sizes (values val self) (values val t) }
+        ensures { values W.val result ≡ added W.sizes (values W.val self) (values W.val t) }
     {
         State {
             a: self.a.plus(t.a),
@@ -65,7 +65,7 @@ impl<W: Word> State<W> {
 // for the other, so that a processor does both at once.
 pub(crate) fn run<W: Word>(start: State<W>, w: &mut [W]) -> State<W>
     requires { length w.old ≡ W.Word.sizes.rounds }
-    ensures { values val result ≡ added sizes (worked sizes (values val start) (take 16 (map val w.old))) (values val start) }
+    ensures { values W.val result ≡ added W.sizes (worked W.sizes (values W.val start) (take 16 (map W.val w.old))) (values W.val start) }
 {
     let mut s = start;
     let late = w.len() - 16;

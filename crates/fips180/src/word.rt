@@ -65,14 +65,14 @@ pub trait Word: Copy {
 
 // Ch: the bits of x choose between y and z.
 pub(crate) fn ch<W: Word>(x: W, y: W, z: W) -> W
-    ensures { val result ≡ choice sizes (val x) (val y) (val z) }
+    ensures { W.val result ≡ choice W.sizes (W.val x) (W.val y) (W.val z) }
 {
     x.and(y).xor(x.not().and(z))
 }
 
 // Maj: the majority of three bits.
 pub(crate) fn maj<W: Word>(x: W, y: W, z: W) -> W
-    ensures { val result ≡ majority (val x) (val y) (val z) }
+    ensures { W.val result ≡ majority (W.val x) (W.val y) (W.val z) }
 {
     x.and(y).xor(x.and(z)).xor(y.and(z))
 }

@@ -54,8 +54,8 @@ impl OffsetTable {
 
     // The table of a mode whose L[0] is L* doubled `start` times.
     pub fn filled<F: Compression>(f: &mut F, start: usize) -> OffsetTable
-        ensures kept { value f.new ≡ value f.old }
-        ensures filled { Filled width feedback start (star width (value f.old)) result }
+        ensures kept { F.value f.new ≡ F.value f.old }
+        ensures filled { Filled F.width F.feedback start (star F.width (F.value f.old)) result }
     {
         let zeros = Block::zeros(F::block_len());
         let feedback = F::reduction();

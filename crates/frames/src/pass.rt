@@ -48,14 +48,14 @@ fn turn<F: Compression>(
     src: &[u8],
     dst: &mut [u8],
 ) -> Pass
-    requires table { Wide width table.now }
-    requires pass { PassOf width pass }
+    requires table { Wide F.width table.now }
+    requires pass { PassOf F.width pass }
     requires index { pass.index < 255 }
     requires at { pass.at ≤ 4096 }
-    requires src { length src.now ≡ width }
-    requires dst { length dst.old ≡ width }
-    ensures kept { value f.new ≡ value f.old }
-    ensures turned { Turned width (value f.old) table.now direction pass src.now dst.new result }
+    requires src { length src.now ≡ F.width }
+    requires dst { length dst.old ≡ F.width }
+    ensures kept { F.value f.new ≡ F.value f.old }
+    ensures turned { Turned F.width (F.value f.old) table.now direction pass src.now dst.new result }
 {
     let source = Block::of(src);
     let target = source ^ pass.value;
@@ -81,13 +81,13 @@ pub fn pass_front<F: Compression>(
     src: &[u8],
     dst: &mut [u8],
 ) -> Pass
-    requires table { Wide width table.now }
-    requires start { PassOf width start × (start.at ≡ 0) × (start.index ≡ 1) }
+    requires table { Wide F.width table.now }
+    requires start { PassOf F.width start × (start.at ≡ 0) × (start.index ≡ 1) }
     requires src { length src.now ≤ 4096 }
     requires dst { length dst.old ≡ length src.now }
-    ensures kept { value f.new ≡ value f.old }
-    ensures left { length src.now ≤ result.at + width }
-    ensures going { Going width (value f.old) table.now direction start src.now dst.new result }
+    ensures kept { F.value f.new ≡ F.value f.old }
+    ensures left { length src.now ≤ result.at + F.width }
+    ensures going { Going F.width (F.value f.old) table.now direction start src.now dst.new result }
 {
     let w = F::block_len();
     let n = src.len();

@@ -32,13 +32,13 @@ pub struct Rule {
 
 // The next chaining value, from the last one and the page's block.
 fn next_value<F: Compression>(f: &mut F, feed: Feed, offset: Block, h: Block, page: Block) -> Block
-    requires feed { FeedOf width feed }
-    requires offset { length (text offset) ≡ width }
-    requires h { length (text h) ≡ width }
-    requires page { length (text page) ≡ width }
-    ensures kept { value f.new ≡ value f.old }
-    ensures block { text result ≡ follow (value f.old) feed (text offset) (text h) (text page) }
-    ensures long { length (text result) ≡ width }
+    requires feed { FeedOf F.width feed }
+    requires offset { length (text offset) ≡ F.width }
+    requires h { length (text h) ≡ F.width }
+    requires page { length (text page) ≡ F.width }
+    ensures kept { F.value f.new ≡ F.value f.old }
+    ensures block { text result ≡ follow (F.value f.old) feed (text offset) (text h) (text page) }
+    ensures long { length (text result) ≡ F.width }
 {
     match feed {
         Feed::Page => step(f, h ^ offset, page),
@@ -55,15 +55,15 @@ fn turn_by<F: Compression>(
     src: &[u8],
     dst: &mut [u8],
 ) -> Pass
-    requires table { Wide width table.now }
-    requires feed { FeedOf width rule.feed }
-    requires pass { PassOf width pass }
+    requires table { Wide F.width table.now }
+    requires feed { FeedOf F.width rule.feed }
+    requires pass { PassOf F.width pass }
     requires index { pass.index < 255 }
     requires at { pass.at ≤ 4096 }
-    requires src { length src.now ≡ width }
-    requires dst { length dst.old ≡ width }
-    ensures kept { value f.new ≡ value f.old }
-    ensures turned { TurnedBy width (value f.old) table.now rule pass src.now dst.new result }
+    requires src { length src.now ≡ F.width }
+    requires dst { length dst.old ≡ F.width }
+    ensures kept { F.value f.new ≡ F.value f.old }
+    ensures turned { TurnedBy F.width (F.value f.old) table.now rule pass src.now dst.new result }
 {
     let source = Block::of(src);
     let target = source ^ pass.value;
@@ -89,14 +89,14 @@ pub fn pass_front_by<F: Compression>(
     src: &[u8],
     dst: &mut [u8],
 ) -> Pass
-    requires table { Wide width table.now }
-    requires feed { FeedOf width rule.feed }
-    requires start { PassOf width start × (start.at ≡ 0) × (start.index ≡ 1) }
+    requires table { Wide F.width table.now }
+    requires feed { FeedOf F.width rule.feed }
+    requires start { PassOf F.width start × (start.at ≡ 0) × (start.index ≡ 1) }
     requires src { length src.now ≤ 4096 }
     requires dst { length dst.old ≡ length src.now }
-    ensures kept { value f.new ≡ value f.old }
-    ensures left { length src.now ≤ result.at + width }
-    ensures going { GoingBy width (value f.old) table.now rule start src.now dst.new result }
+    ensures kept { F.value f.new ≡ F.value f.old }
+    ensures left { length src.now ≤ result.at + F.width }
+    ensures going { GoingBy F.width (F.value f.old) table.now rule start src.now dst.new result }
 {
     let w = F::block_len();
     let n = src.len();
@@ -117,13 +117,13 @@ pub fn pass_all<F: Compression>(
     src: &[u8],
     dst: &mut [u8],
 )
-    requires table { Wide width table.now }
-    requires feed { FeedOf width rule.feed }
-    requires start { PassOf width start × (start.at ≡ 0) × (start.index ≡ 1) }
+    requires table { Wide F.width table.now }
+    requires feed { FeedOf F.width rule.feed }
+    requires start { PassOf F.width start × (start.at ≡ 0) × (start.index ≡ 1) }
     requires src { length src.now ≤ 4096 }
     requires dst { length dst.old ≡ length src.now }
-    ensures kept { value f.new ≡ value f.old }
-    ensures cipher { (L : ℕ → List ℕ) (d : List ℕ) → Entries table.now L → text start.offset ≡ delta L d 1 → cipher_of rule.direction src.now dst.new ≡ chain (next_by (value f.old) rule.feed (delta L d)) 1 (text start.value) (cut width (page_of rule.direction src.now dst.new)) }
+    ensures kept { F.value f.new ≡ F.value f.old }
+    ensures cipher { (L : ℕ → List ℕ) (d : List ℕ) → Entries table.now L → text start.offset ≡ delta L d 1 → cipher_of rule.direction src.now dst.new ≡ chain (next_by (F.value f.old) rule.feed (delta L d)) 1 (text start.value) (cut F.width (page_of rule.direction src.now dst.new)) }
 {
     let n = src.len();
     if n == 0 {

@@ -7,11 +7,11 @@ use Rattle.show.proofs.to_hex.Goals as goal
 
 pub loop-b-preserved : goal.loop-b-preserved
 loop-b-preserved c =
-    let one = c.in-ok-push.ensures in
-    let two = c.in-ok-push-2.ensures in
-    let hi = c.hex-digit.ensures in
-    let lo = c.hex-digit-in-loop-b.ensures in
-    hex_more c.args.bytes.now (string_bytes c.loop-b.s) (string_bytes c.push.new.self) (string_bytes c.push-in-loop-b.new.self) c.loop-b.b-index c.hex-digit.result c.hex-digit-in-loop-b.result (omega arith) c.loop-b.invariant
+    let one = c.in_ok-push.ensures in
+    let two = c.in_ok-push-2.ensures in
+    let hi = c.hex_digit.ensures in
+    let lo = c.hex_digit-in-loop-b.ensures in
+    hex_more c.args.bytes.now (string_bytes c.loop-b.s) (string_bytes c.push.new.self) (string_bytes c.push-in-loop-b.new.self) c.loop-b.b-index c.hex_digit.result c.hex_digit-in-loop-b.result (omega arith) c.loop-b.invariant
     (one.bytes ∙ ap (λ t. string_bytes c.loop-b.s ++ t) (one.ascii hi.1))
     (two.bytes ∙ ap (λ t. string_bytes c.push.new.self ++ t) (two.ascii lo.1))
     hi.0 lo.0

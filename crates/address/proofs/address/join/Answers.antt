@@ -7,6 +7,6 @@ returns c =
     let xs = c.args.address.now in
     let ys = c.args.ad.now in
     let old = c.args.all.now in
-    let e = c.copy-from-slice.ensures.after in
-    let f = c.copy-from-slice-2.ensures.after in
+    let e = c.copy_from_slice.ensures.after in
+    let f = c.copy_from_slice-2.ensures.after in
     record { size = size xs ys old _ _ e f c.requires; long = refl; joined = joined xs ys old _ _ e f }

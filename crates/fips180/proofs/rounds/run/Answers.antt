@@ -20,8 +20,8 @@ loop-t-preserved g c =
     let l : t + 16 < length (map v w) = simp length-map (omega arith) in
     let u : values v c.round-s.result ≡ round z (values v c.loop-t.s) (get_or z.constants t 0) (get_or (map v w) t 0) = cc in
     subst (λ (ws : List ℕ). Going z (values v c.args.start) z.constants (take 16 (map v c.args.w.now)) ws (t + 1) (values v c.round-s.result))
-    (sym (map-set v w (t + 16) c.next-word.result))
-    (going_more z (values v c.args.start) z.constants _ (map v w) t _ (omega (arith, g.met.W.Word.table)) l u c.next-word.ensures c.loop-t.invariant)
+    (sym (map-set v w (t + 16) c.next_word.result))
+    (going_more z (values v c.args.start) z.constants _ (map v w) t _ (omega (arith, g.met.W.Word.table)) l u c.next_word.ensures c.loop-t.invariant)
 
 pub loop-t-2-init : goal.loop-t-2-init
 loop-t-2-init g c =

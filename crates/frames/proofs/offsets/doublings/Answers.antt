@@ -10,6 +10,6 @@ loop-i-preserved c =
     let inv = c.loop-i.invariant in
     let here : i < length c.loop-i.entries = omega arith in (
       length-set _ _ _ ∙ inv.0,
-      c.double_next.ensures.block ∙ ap (double c.args.feedback) inv.1 ∙ ap (λ n. doubled c.args.feedback n (text c.args.first)) (sym (add-one i)),
+      c.double-next.ensures.block ∙ ap (double c.args.feedback) inv.1 ∙ ap (λ n. doubled c.args.feedback n (text c.args.first)) (sym (add-one i)),
       below_more _ _ (λ k h b. let ne : k ≢ i = omega arith in rw get_or-set_other (inv.2 k h b)) (λ b. rw get_or-set_same inv.1),
     )

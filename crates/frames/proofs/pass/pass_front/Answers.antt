@@ -13,7 +13,7 @@ loop-pass-init g c =
 pub turn-pass-requires : goal.turn-pass-requires
 turn-pass-requires g c =
     let d = c.loop-pass.invariant.1 in
-    let e = c.block-len-w.ensures in
+    let e = c.block_len-w.ensures in
     record {
       table = c.requires.table;
       pass = d.wide;
@@ -27,7 +27,7 @@ pub loop-pass-preserved : goal.loop-pass-preserved
 loop-pass-preserved g c =
     let m = g.F.Compression in
     let v = c.loop-pass.invariant.0 in
-    let t : Turned m.width (m.value c.args.f.now) c.args.table.now c.args.direction c.loop-pass.pass (take (c.loop-pass.pass.at + c.block-len-w.result - c.loop-pass.pass.at) (drop c.loop-pass.pass.at c.args.src.now)) c.turn-pass.new.dst c.turn-pass.result = rw v at c.turn-pass.ensures.turned in (
+    let t : Turned m.width (m.value c.args.f.now) c.args.table.now c.args.direction c.loop-pass.pass (take (c.loop-pass.pass.at + c.block_len-w.result - c.loop-pass.pass.at) (drop c.loop-pass.pass.at c.args.src.now)) c.turn-pass.new.dst c.turn-pass.result = rw v at c.turn-pass.ensures.turned in (
       c.turn-pass.ensures.kept ∙ v,
-      going_at m.width g.met.F.Compression.wide.0 (m.value c.args.f.now) c.args.table.now c.args.direction c.args.start c.args.src.now c.block-len-w.result c.block-len-w.ensures c.loop-pass.pass c.turn-pass.result c.loop-pass.dst c.turn-pass.new.dst (omega arith) c.requires.src (omega arith) c.loop-pass.invariant.1 t,
+      going_at m.width g.met.F.Compression.wide.0 (m.value c.args.f.now) c.args.table.now c.args.direction c.args.start c.args.src.now c.block_len-w.result c.block_len-w.ensures c.loop-pass.pass c.turn-pass.result c.loop-pass.dst c.turn-pass.new.dst (omega arith) c.requires.src (omega arith) c.loop-pass.invariant.1 t,
     )

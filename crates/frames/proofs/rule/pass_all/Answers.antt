@@ -18,8 +18,8 @@ returns-then-n-eq0 g c =
 pub returns : goal.returns
 returns g c =
     let m = g.F.Compression in
-    let ep = c.copy-from-slice.ensures.after ∙ c.as-slice.ensures ∙ c.bitxor-target.ensures.is ∙ ap (λ x. xor x (text c.pass-front-by-pass.result.value)) c.of.ensures.block in
+    let ep = c.copy_from_slice.ensures.after ∙ c.as_slice.ensures ∙ c.bitxor-target.ensures.is ∙ ap (λ x. xor x (text c.pass_front_by-pass.result.value)) c.of.ensures.block in
     record {
-      kept = c.pass-front-by-pass.ensures.kept;
-      cipher = λ L d rs e. enciphered m.width g.met.F.Compression.wide.0 (m.value c.args.f.now) c.args.table.now c.args.rule c.args.start c.args.src.now c.pass-front-by-pass.new.dst c.copy-from-slice.new.self c.pass-front-by-pass.result (omega arith) (omega arith) c.pass-front-by-pass.ensures.left c.pass-front-by-pass.ensures.going ep L d rs e;
+      kept = c.pass_front_by-pass.ensures.kept;
+      cipher = λ L d rs e. enciphered m.width g.met.F.Compression.wide.0 (m.value c.args.f.now) c.args.table.now c.args.rule c.args.start c.args.src.now c.pass_front_by-pass.new.dst c.copy_from_slice.new.self c.pass_front_by-pass.result (omega arith) (omega arith) c.pass_front_by-pass.ensures.left c.pass_front_by-pass.ensures.going ep L d rs e;
     }

@@ -10,10 +10,10 @@ loop-pass-init g c =
     let s = c.requires.start in
     (refl, going_none m.width g.met.F.Compression.wide.0 (m.value c.args.f.now) c.args.table.now c.args.rule c.args.start c.args.src.now c.args.dst.now s.0 s.1 s.2)
 
-pub turn-by-pass-requires : goal.turn-by-pass-requires
-turn-by-pass-requires g c =
+pub turn_by-pass-requires : goal.turn_by-pass-requires
+turn_by-pass-requires g c =
     let d = c.loop-pass.invariant.1 in
-    let e = c.block-len-w.ensures in
+    let e = c.block_len-w.ensures in
     record {
       table = c.requires.table;
       feed = c.requires.feed;
@@ -28,7 +28,7 @@ pub loop-pass-preserved : goal.loop-pass-preserved
 loop-pass-preserved g c =
     let m = g.F.Compression in
     let v = c.loop-pass.invariant.0 in
-    let t : TurnedBy m.width (m.value c.args.f.now) c.args.table.now c.args.rule c.loop-pass.pass (take (c.loop-pass.pass.at + c.block-len-w.result - c.loop-pass.pass.at) (drop c.loop-pass.pass.at c.args.src.now)) c.turn-by-pass.new.dst c.turn-by-pass.result = rw v at c.turn-by-pass.ensures.turned in (
-      c.turn-by-pass.ensures.kept ∙ v,
-      going_at m.width g.met.F.Compression.wide.0 (m.value c.args.f.now) c.args.table.now c.args.rule c.args.start c.args.src.now c.block-len-w.result c.block-len-w.ensures c.loop-pass.pass c.turn-by-pass.result c.loop-pass.dst c.turn-by-pass.new.dst (omega arith) c.requires.src (omega arith) c.loop-pass.invariant.1 t,
+    let t : TurnedBy m.width (m.value c.args.f.now) c.args.table.now c.args.rule c.loop-pass.pass (take (c.loop-pass.pass.at + c.block_len-w.result - c.loop-pass.pass.at) (drop c.loop-pass.pass.at c.args.src.now)) c.turn_by-pass.new.dst c.turn_by-pass.result = rw v at c.turn_by-pass.ensures.turned in (
+      c.turn_by-pass.ensures.kept ∙ v,
+      going_at m.width g.met.F.Compression.wide.0 (m.value c.args.f.now) c.args.table.now c.args.rule c.args.start c.args.src.now c.block_len-w.result c.block_len-w.ensures c.loop-pass.pass c.turn_by-pass.result c.loop-pass.dst c.turn_by-pass.new.dst (omega arith) c.requires.src (omega arith) c.loop-pass.invariant.1 t,
     )

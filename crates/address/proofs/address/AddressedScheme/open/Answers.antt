@@ -11,12 +11,12 @@ returns g c =
     let m = g.S.Scheme.meaning s.below in
     let a = c.args.ad.now in
     let all = c.prepare.new.all in
-    let k = c.in-ok-n.n in
-    let joined = c.in-ok-n.ensures in
+    let k = c.in_ok-n.n in
+    let joined = c.in_ok-n.ensures in
     let is = given at m a all k joined in
     record {
-      kept = ap₂ addressed c.open-below.ensures.same c.open-below.ensures.kept;
-      stays = ap address_layers c.open-below.ensures.stays;
-      layer = open_layer (longest at m) (behind at m) m (within at m) c.args.nonce.now a (take (k - 0) all) joined.fits is 2 (g.S.Scheme.layers s.below) c.args.body.now c.args.out.now c.open-below.new.out c.open-below.result c.open-below.ensures.opened c.open-below.ensures.layer;
-      opened = opened_above (longest at m) (behind at m) m (within at m) c.args.nonce.now a (take (k - 0) all) joined.fits is c.args.body.now c.args.out.now c.open-below.new.out c.open-below.result c.open-below.ensures.opened;
+      kept = ap₂ addressed c.open_below.ensures.same c.open_below.ensures.kept;
+      stays = ap address_layers c.open_below.ensures.stays;
+      layer = open_layer (longest at m) (behind at m) m (within at m) c.args.nonce.now a (take (k - 0) all) joined.fits is 2 (g.S.Scheme.layers s.below) c.args.body.now c.args.out.now c.open_below.new.out c.open_below.result c.open_below.ensures.opened c.open_below.ensures.layer;
+      opened = opened_above (longest at m) (behind at m) m (within at m) c.args.nonce.now a (take (k - 0) all) joined.fits is c.args.body.now c.args.out.now c.open_below.new.out c.open_below.result c.open_below.ensures.opened;
     }

@@ -11,12 +11,12 @@ returns g c =
     let m = g.S.Scheme.meaning s.below in
     let a = c.args.ad.now in
     let all = c.prepare.new.all in
-    let k = c.in-ok-n.n in
-    let joined = c.in-ok-n.ensures in
+    let k = c.in_ok-n.n in
+    let joined = c.in_ok-n.ensures in
     let is = given at m a all k joined in
     record {
-      kept = ap₂ addressed c.seal-below.ensures.same c.seal-below.ensures.kept;
-      stays = ap address_layers c.seal-below.ensures.stays;
-      layer = seal_layer (longest at m) (behind at m) m (within at m) c.args.nonce.now a (take (k - 0) all) joined.fits is 2 (g.S.Scheme.layers s.below) c.args.page.now c.args.out.now c.seal-below.new.out c.seal-below.result c.seal-below.ensures.sealed c.seal-below.ensures.layer;
-      sealed = sealed_above (longest at m) (behind at m) m (within at m) c.args.nonce.now a (take (k - 0) all) joined.fits is c.args.page.now c.args.out.now c.seal-below.new.out c.seal-below.result c.seal-below.ensures.sealed;
+      kept = ap₂ addressed c.seal_below.ensures.same c.seal_below.ensures.kept;
+      stays = ap address_layers c.seal_below.ensures.stays;
+      layer = seal_layer (longest at m) (behind at m) m (within at m) c.args.nonce.now a (take (k - 0) all) joined.fits is 2 (g.S.Scheme.layers s.below) c.args.page.now c.args.out.now c.seal_below.new.out c.seal_below.result c.seal_below.ensures.sealed c.seal_below.ensures.layer;
+      sealed = sealed_above (longest at m) (behind at m) m (within at m) c.args.nonce.now a (take (k - 0) all) joined.fits is c.args.page.now c.args.out.now c.seal_below.new.out c.seal_below.result c.seal_below.ensures.sealed;
     }
