@@ -13,11 +13,11 @@ abbrev pub omd : (w fb : ℕ) → (List ℕ → List ℕ → List ℕ) → ℕ �
 omd w fb F tau = mode tau Back (sealed w fb F tau)
 
 -- the tag's length. Set-up keeps it within the width; the type cannot say so, and this does
-abbrev pub tag_length : {F : Type 0} → ℕ → Omd F → ℕ
+abbrev pub tag_length : {F : Type 0} {g : _} → ℕ → Omd F g → ℕ
 tag_length w s = min s.tag_len w
 
 -- the meaning of s, where `value` is that of its compression function
-abbrev pub means : {F : Type 0} → (w fb : ℕ) → (F → List ℕ → List ℕ → List ℕ) → Omd F → Meaning
+abbrev pub means : {F : Type 0} {g : _} → (w fb : ℕ) → (F → List ℕ → List ℕ → List ℕ) → Omd F g → Meaning
 means w fb value s = omd w fb (value s.f) (tag_length w s)
 
 -- what setting the tag's length to n answers

@@ -21,13 +21,13 @@ pub(crate) fn begin<F: Compression>(
     tag_len: usize,
     nonce: &[u8],
 ) -> Pass
-    requires table { Wide width table.now }
+    requires table { Wide F.width table.now }
     requires tag { tag_len ≤ 64 }
     requires nonce { length nonce.now ≤ 31 }
-    ensures kept { value f.new ≡ value f.old }
-    ensures begun { PassOf width result × (result.at ≡ 0) × (result.index ≡ 1) }
-    ensures offset { (L : ℕ → List ℕ) → Entries table.now L → text result.offset ≡ delta L (nonce_offset width feedback (value f.old) nonce.now) 1 }
-    ensures value { text result.value ≡ value f.old (text result.offset) (digits width (8 * tag_len)) }
+    ensures kept { F.value f.new ≡ F.value f.old }
+    ensures begun { PassOf F.width result × (result.at ≡ 0) × (result.index ≡ 1) }
+    ensures offset { (L : ℕ → List ℕ) → Entries table.now L → text result.offset ≡ delta L (nonce_offset F.width F.feedback (F.value f.old) nonce.now) 1 }
+    ensures value { text result.value ≡ F.value f.old (text result.offset) (digits F.width (8 * tag_len)) }
 {
     let w = F::block_len();
     let d = step(f, Block::padded(nonce, w), Block::zeros(w));
@@ -59,14 +59,14 @@ fn last_block<F: Compression>(
     src: &[u8],
     dst: &mut [u8],
 ) -> Block
-    requires star { length (text star) ≡ width }
-    requires pass { PassOf width pass }
-    requires src { length src.now ≤ width }
+    requires star { length (text star) ≡ F.width }
+    requires pass { PassOf F.width pass }
+    requires src { length src.now ≤ F.width }
     requires dst { length dst.old ≡ length src.now }
-    ensures kept { value f.new ≡ value f.old }
+    ensures kept { F.value f.new ≡ F.value f.old }
     ensures dst { dst.new ≡ xor src.now (text pass.value) }
-    ensures tag { text result ≡ ending width feedback (value f.old) (text star) (text pass.offset) (text pass.value) (page_of direction src.now dst.new) }
-    ensures long { length (text result) ≡ width }
+    ensures tag { text result ≡ ending F.width F.feedback (F.value f.old) (text star) (text pass.offset) (text pass.value) (page_of direction src.now dst.new) }
+    ensures long { length (text result) ≡ F.width }
 {
     let w = F::block_len();
     let source = Block::of(src);
@@ -90,14 +90,14 @@ pub(crate) fn run_page<F: Compression>(
     src: &[u8],
     dst: &mut [u8],
 ) -> Block
-    requires table { Filled width feedback 2 (star width (value f.old)) table.now }
-    requires start { PassOf width start × (start.at ≡ 0) × (start.index ≡ 1) }
+    requires table { Filled F.width F.feedback 2 (star F.width (F.value f.old)) table.now }
+    requires start { PassOf F.width start × (start.at ≡ 0) × (start.index ≡ 1) }
     requires src { length src.now ≤ 4096 }
     requires dst { length dst.old ≡ length src.now }
-    ensures kept { value f.new ≡ value f.old }
-    ensures cipher { (d : List ℕ) → text start.offset ≡ delta (entry width feedback (value f.old)) d 1 → cipher_of direction src.now dst.new ≡ cipher_from width feedback (value f.old) d (text start.value) (page_of direction src.now dst.new) }
-    ensures tag { (d : List ℕ) → text start.offset ≡ delta (entry width feedback (value f.old)) d 1 → text result ≡ tag_from width feedback (value f.old) d (text start.value) (page_of direction src.now dst.new) }
-    ensures long { length (text result) ≡ width }
+    ensures kept { F.value f.new ≡ F.value f.old }
+    ensures cipher { (d : List ℕ) → text start.offset ≡ delta (entry F.width F.feedback (F.value f.old)) d 1 → cipher_of direction src.now dst.new ≡ cipher_from F.width F.feedback (F.value f.old) d (text start.value) (page_of direction src.now dst.new) }
+    ensures tag { (d : List ℕ) → text start.offset ≡ delta (entry F.width F.feedback (F.value f.old)) d 1 → text result ≡ tag_from F.width F.feedback (F.value f.old) d (text start.value) (page_of direction src.now dst.new) }
+    ensures long { length (text result) ≡ F.width }
 {
     let n = src.len();
     if n == 0 {
@@ -123,11 +123,11 @@ fn ad_end(table: &OffsetTable, short: bool, pass: Pass) -> Block
 
 // The associated data's part of the tag.
 pub(crate) fn sum_ad<F: Compression>(f: &mut F, table: &OffsetTable, ad: &[u8]) -> Block
-    requires table { Filled width feedback 2 (star width (value f.old)) table.now }
+    requires table { Filled F.width F.feedback 2 (star F.width (F.value f.old)) table.now }
     requires ad { length ad.now ≤ 1024 }
-    ensures kept { value f.new ≡ value f.old }
-    ensures sum { text result ≡ ad_tag width feedback (value f.old) ad.now }
-    ensures long { length (text result) ≡ width }
+    ensures kept { F.value f.new ≡ F.value f.old }
+    ensures sum { text result ≡ ad_tag F.width F.feedback (F.value f.old) ad.now }
+    ensures long { length (text result) ≡ F.width }
 {
     let w = F::block_len();
     let zeros = Block::zeros(w);

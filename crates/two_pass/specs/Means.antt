@@ -11,9 +11,9 @@ abbrev pub two_pass : (w fb : ℕ) → (List ℕ → List ℕ → List ℕ) → 
 two_pass w fb F k tau = mode tau Front (sealed w fb F k tau)
 
 -- the tag's length. Set-up keeps it within the width; the type cannot say so, and this does
-abbrev pub tag_length : {F K : Type 0} → ℕ → TwoPass F K → ℕ
+abbrev pub tag_length : {F K : Type 0} {g : _} {k : _} → ℕ → TwoPass F K g k → ℕ
 tag_length w s = min s.tag_len w
 
 -- the meaning of s, where `value` is that of its compression function
-abbrev pub means : {F K : Type 0} → (w fb : ℕ) → (F → List ℕ → List ℕ → List ℕ) → Keystream → TwoPass F K → Meaning
+abbrev pub means : {F K : Type 0} {g : _} {k : _} → (w fb : ℕ) → (F → List ℕ → List ℕ → List ℕ) → Keystream → TwoPass F K g k → Meaning
 means w fb value k s = two_pass w fb (value s.f) k (tag_length w s)

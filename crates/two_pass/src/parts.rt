@@ -61,9 +61,9 @@ fn add_if(set: bool, x: Block, sum: Block) -> Block
 
 // j·L*.
 fn times<F: Compression>(star: Block, j: u8) -> Block
-    requires { length (text star) ≡ width }
-    ensures block { text result ≡ times width feedback (text star) j }
-    ensures long { length (text result) ≡ width }
+    requires { length (text star) ≡ F.width }
+    ensures block { text result ≡ times F.width F.feedback (text star) j }
+    ensures long { length (text result) ≡ F.width }
 {
     let feedback = F::reduction();
     let two = star.double(feedback);
@@ -77,9 +77,9 @@ fn times<F: Compression>(star: Block, j: u8) -> Block
 // D(0).
 pub(crate) fn begin<F: Compression>(f: &mut F, nonce: &[u8]) -> Block
     requires { length nonce.now ≤ 31 }
-    ensures kept { value f.new ≡ value f.old }
-    ensures offset { text result ≡ nonce_offset width feedback (value f.old) nonce.now }
-    ensures long { length (text result) ≡ width }
+    ensures kept { F.value f.new ≡ F.value f.old }
+    ensures offset { text result ≡ nonce_offset F.width F.feedback (F.value f.old) nonce.now }
+    ensures long { length (text result) ≡ F.width }
 {
     let w = F::block_len();
     step(f, Block::padded(nonce, w), Block::zeros(w))
@@ -95,12 +95,12 @@ fn sum_to_last<F: Compression>(
     sum: Block,
     src: &[u8],
 ) -> Pass
-    requires table { Filled width feedback 3 (star width (value f.old)) table.now }
-    requires d { length (text d) ≡ width }
-    requires sum { length (text sum) ≡ width }
+    requires table { Filled F.width F.feedback 3 (star F.width (F.value f.old)) table.now }
+    requires d { length (text d) ≡ F.width }
+    requires sum { length (text sum) ≡ F.width }
     requires src { length src.now ≤ 4096 }
-    ensures kept { value f.new ≡ value f.old }
-    ensures summed { Summed width feedback (value f.old) kinds (text d) (text sum) src.now result }
+    ensures kept { F.value f.new ≡ F.value f.old }
+    ensures summed { Summed F.width F.feedback (F.value f.old) kinds (text d) (text sum) src.now result }
 {
     let kind = times::<F>(table.star, kinds.front);
     let start = Pass {
@@ -122,12 +122,12 @@ fn sum_to_last<F: Compression>(
 
 // The associated data's part of S.
 pub(crate) fn sum_ad<F: Compression>(f: &mut F, table: &OffsetTable, d: Block, ad: &[u8]) -> Block
-    requires table { Filled width feedback 3 (star width (value f.old)) table.now }
-    requires d { length (text d) ≡ width }
+    requires table { Filled F.width F.feedback 3 (star F.width (F.value f.old)) table.now }
+    requires d { length (text d) ≡ F.width }
     requires ad { length ad.now ≤ 1024 }
-    ensures kept { value f.new ≡ value f.old }
-    ensures sum { text result ≡ ad_sum width feedback (value f.old) (text d) ad.now }
-    ensures long { length (text result) ≡ width }
+    ensures kept { F.value f.new ≡ F.value f.old }
+    ensures sum { text result ≡ ad_sum F.width F.feedback (F.value f.old) (text d) ad.now }
+    ensures long { length (text result) ≡ F.width }
 {
     let zeros = Block::zeros(F::block_len());
     let n = ad.len();
@@ -147,13 +147,13 @@ pub(crate) fn hash_page<F: Compression>(
     sum: Block,
     page: &[u8],
 ) -> Block
-    requires table { Filled width feedback 3 (star width (value f.old)) table.now }
-    requires d { length (text d) ≡ width }
-    requires sum { length (text sum) ≡ width }
+    requires table { Filled F.width F.feedback 3 (star F.width (F.value f.old)) table.now }
+    requires d { length (text d) ≡ F.width }
+    requires sum { length (text sum) ≡ F.width }
     requires page { length page.now ≤ 4096 }
-    ensures kept { value f.new ≡ value f.old }
-    ensures tag { text result ≡ tag_block width feedback (value f.old) (text d) (text sum) page.now }
-    ensures long { length (text result) ≡ width }
+    ensures kept { F.value f.new ≡ F.value f.old }
+    ensures tag { text result ≡ tag_block F.width F.feedback (F.value f.old) (text d) (text sum) page.now }
+    ensures long { length (text result) ≡ F.width }
 {
     let n = page.len();
     let last = sum_to_last(f, table, Kinds::page(), d, sum, page);
@@ -164,8 +164,8 @@ pub(crate) fn hash_page<F: Compression>(
 // ⟨8τ⟩.
 pub(crate) fn tag_bits<F: Compression>(tag_len: usize) -> Block
     requires { tag_len ≤ 64 }
-    ensures block { text result ≡ digits width (8 * tag_len) }
-    ensures long { length (text result) ≡ width }
+    ensures block { text result ≡ digits F.width (8 * tag_len) }
+    ensures long { length (text result) ≡ F.width }
 {
     Block::number(8 * tag_len, F::block_len())
 }
@@ -178,15 +178,15 @@ pub(crate) fn first_block<F: Compression>(
     v: Block,
     bits: Block,
 ) -> Pass
-    requires wide { Wide width table.now }
-    requires star { length (text table.now.star) ≡ width }
-    requires d { length (text d) ≡ width }
-    requires v { length (text v) ≡ width }
-    requires bits { length (text bits) ≡ width }
-    ensures kept { value f.new ≡ value f.old }
-    ensures begun { PassOf width result × (result.at ≡ 0) × (result.index ≡ 1) }
-    ensures offset { (L : ℕ → List ℕ) → Entries table.now L → text result.offset ≡ delta L (xor (text d) (times width feedback (text table.now.star) 6)) 1 }
-    ensures value { text result.value ≡ value f.old (xor (text v) (text result.offset)) (text bits) }
+    requires wide { Wide F.width table.now }
+    requires star { length (text table.now.star) ≡ F.width }
+    requires d { length (text d) ≡ F.width }
+    requires v { length (text v) ≡ F.width }
+    requires bits { length (text bits) ≡ F.width }
+    ensures kept { F.value f.new ≡ F.value f.old }
+    ensures begun { PassOf F.width result × (result.at ≡ 0) × (result.index ≡ 1) }
+    ensures offset { (L : ℕ → List ℕ) → Entries table.now L → text result.offset ≡ delta L (xor (text d) (times F.width F.feedback (text table.now.star) 6)) 1 }
+    ensures value { text result.value ≡ F.value f.old (xor (text v) (text result.offset)) (text bits) }
 {
     let offset = table.next(d ^ times::<F>(table.star, 6), 1);
     let value = step(f, v ^ offset, bits);

@@ -24,7 +24,7 @@ use scheme::scheme::Scheme;
 impl<F: Compression> Omd<F> {
     // OMD over `f`, with a tag of 16 bytes.
     pub fn new(f: F) -> Self
-        ensures { means width feedback value result ≡ omd width feedback (value f) 16 }
+        ensures { means F.width F.feedback F.value result ≡ omd F.width F.feedback (F.value f) 16 }
     {
         Omd {
             f,
@@ -35,8 +35,8 @@ impl<F: Compression> Omd<F> {
 
     // Sets the tag's length, or refuses one outside 4 to the width; the old one then stays.
     pub fn set_tag_len(&mut self, n: usize) -> Result<(), Refusal>
-        ensures answer { result ≡ tag_answer width n }
-        ensures means { means width feedback value self.new ≡ (if is_ok result then omd width feedback (value self.old.f) n else means width feedback value self.old) }
+        ensures answer { result ≡ tag_answer F.width n }
+        ensures means { means F.width F.feedback F.value self.new ≡ (if is_ok result then omd F.width F.feedback (F.value self.old.f) n else means F.width F.feedback F.value self.old) }
     {
         if n < 4 || n > F::block_len() {
             return Err(by_mode(Cause::TagLength, n));
@@ -47,9 +47,9 @@ impl<F: Compression> Omd<F> {
 
     // Fills the table anew: L[0] is 4·L*.
     fn refill(&mut self)
-        ensures kept { value self.new.f ≡ value self.old.f }
+        ensures kept { F.value self.new.f ≡ F.value self.old.f }
         ensures same { self.new.tag_len ≡ self.old.tag_len }
-        ensures filled { Filled width feedback 2 (star width (value self.old.f)) self.new.table }
+        ensures filled { Filled F.width F.feedback 2 (star F.width (F.value self.old.f)) self.new.table }
     {
         self.table = OffsetTable::filled(&mut self.f, 2);
     }
@@ -68,11 +68,11 @@ impl<F: Compression> Omd<F> {
         requires ad { length ad.now ≤ 1024 }
         requires src { length src.now ≤ 4096 }
         requires dst { length dst.old ≡ length src.now }
-        ensures kept { value self.new.f ≡ value self.old.f }
+        ensures kept { F.value self.new.f ≡ F.value self.old.f }
         ensures same { self.new.tag_len ≡ self.old.tag_len }
-        ensures cipher { cipher_of direction src.now dst.new ≡ cipher width feedback (value self.old.f) (tag_length width self.old) nonce.now (page_of direction src.now dst.new) }
-        ensures tag { text result ≡ xor (page_tag width feedback (value self.old.f) (tag_length width self.old) nonce.now (page_of direction src.now dst.new)) (ad_tag width feedback (value self.old.f) ad.now) }
-        ensures long { length (text result) ≡ width }
+        ensures cipher { cipher_of direction src.now dst.new ≡ cipher F.width F.feedback (F.value self.old.f) (tag_length F.width self.old) nonce.now (page_of direction src.now dst.new) }
+        ensures tag { text result ≡ xor (page_tag F.width F.feedback (F.value self.old.f) (tag_length F.width self.old) nonce.now (page_of direction src.now dst.new)) (ad_tag F.width F.feedback (F.value self.old.f) ad.now) }
+        ensures long { length (text result) ≡ F.width }
     {
         let tag_len = self.tag_len();
         self.refill();
@@ -133,11 +133,11 @@ impl<F: Compression> Scheme for Omd<F> {
         } };
 
     fn limits(&self) -> Limits {
-        limits_of(<Omd<_> as Mode>::tag_len(self))
+        limits_of(self.tag_len())
     }
 
     fn tag<'a>(&self, body: &'a [u8]) -> Option<&'a [u8]> {
-        End::Back.find_tag(body, <Omd<_> as Mode>::tag_len(self))
+        End::Back.find_tag(body, self.tag_len())
     }
 
     fn open(

@@ -27,7 +27,7 @@ use std::marker::PhantomData;
 impl<F: Compression, K: Chaining> TwoPass<F, K> {
     // The mode over `f`, with a tag of 16 bytes.
     pub fn new(f: F) -> Self
-        ensures { means width feedback value keystream result ≡ two_pass width feedback (value f) keystream 16 }
+        ensures { means F.width F.feedback F.value K.keystream result ≡ two_pass F.width F.feedback (F.value f) K.keystream 16 }
     {
         TwoPass {
             f,
@@ -39,8 +39,8 @@ impl<F: Compression, K: Chaining> TwoPass<F, K> {
 
     // Sets the tag's length, or refuses one outside 4 to the width; the old one then stays.
     pub fn set_tag_len(&mut self, n: usize) -> Result<(), Refusal>
-        ensures answer { result ≡ tag_answer width n }
-        ensures means { means width feedback value keystream self.new ≡ (if is_ok result then two_pass width feedback (value self.old.f) keystream n else means width feedback value keystream self.old) }
+        ensures answer { result ≡ tag_answer F.width n }
+        ensures means { means F.width F.feedback F.value K.keystream self.new ≡ (if is_ok result then two_pass F.width F.feedback (F.value self.old.f) K.keystream n else means F.width F.feedback F.value K.keystream self.old) }
     {
         check_tag_len(F::block_len(), n)?;
         self.tag_len = n;
@@ -50,11 +50,11 @@ impl<F: Compression, K: Chaining> TwoPass<F, K> {
     // Fills the table anew, whose L[0] is 8·L*, and answers D(0).
     fn prepare(&mut self, nonce: &[u8]) -> Block
         requires { length nonce.now ≤ 31 }
-        ensures kept { value self.new.f ≡ value self.old.f }
-        ensures same { tag_length width self.new ≡ tag_length width self.old }
-        ensures filled { Filled width feedback 3 (star width (value self.new.f)) self.new.table }
-        ensures offset { text result ≡ nonce_offset width feedback (value self.old.f) nonce.now }
-        ensures long { length (text result) ≡ width }
+        ensures kept { F.value self.new.f ≡ F.value self.old.f }
+        ensures same { tag_length F.width self.new ≡ tag_length F.width self.old }
+        ensures filled { Filled F.width F.feedback 3 (star F.width (F.value self.new.f)) self.new.table }
+        ensures offset { text result ≡ nonce_offset F.width F.feedback (F.value self.old.f) nonce.now }
+        ensures long { length (text result) ≡ F.width }
     {
         let d = begin(&mut self.f, nonce);
         self.table = OffsetTable::filled(&mut self.f, 3);
@@ -63,15 +63,15 @@ impl<F: Compression, K: Chaining> TwoPass<F, K> {
 
     // The block whose first bytes are the tag.
     fn tag_block(&mut self, d: Block, ad: &[u8], page: &[u8]) -> Block
-        requires filled { Filled width feedback 3 (star width (value self.old.f)) self.old.table }
-        requires d { length (text d) ≡ width }
+        requires filled { Filled F.width F.feedback 3 (star F.width (F.value self.old.f)) self.old.table }
+        requires d { length (text d) ≡ F.width }
         requires ad { length ad.now ≤ 1024 }
         requires page { length page.now ≤ 4096 }
-        ensures kept { value self.new.f ≡ value self.old.f }
-        ensures same { tag_length width self.new ≡ tag_length width self.old }
+        ensures kept { F.value self.new.f ≡ F.value self.old.f }
+        ensures same { tag_length F.width self.new ≡ tag_length F.width self.old }
         ensures table { self.new.table ≡ self.old.table }
-        ensures tag { text result ≡ tag_block width feedback (value self.old.f) (text d) (ad_sum width feedback (value self.old.f) (text d) ad.now) page.now }
-        ensures long { length (text result) ≡ width }
+        ensures tag { text result ≡ tag_block F.width F.feedback (F.value self.old.f) (text d) (ad_sum F.width F.feedback (F.value self.old.f) (text d) ad.now) page.now }
+        ensures long { length (text result) ≡ F.width }
     {
         let sum = sum_ad(&mut self.f, &self.table, d, ad);
         hash_page(&mut self.f, &self.table, d, sum, page)
@@ -79,15 +79,15 @@ impl<F: Compression, K: Chaining> TwoPass<F, K> {
 
     // The page in `src` to its ciphertext in `dst`, or back, where `v` is V.
     fn encipher(&mut self, direction: Direction, d: Block, v: Block, src: &[u8], dst: &mut [u8])
-        requires filled { Filled width feedback 3 (star width (value self.old.f)) self.old.table }
-        requires d { length (text d) ≡ width }
-        requires v { length (text v) ≡ width }
+        requires filled { Filled F.width F.feedback 3 (star F.width (F.value self.old.f)) self.old.table }
+        requires d { length (text d) ≡ F.width }
+        requires v { length (text v) ≡ F.width }
         requires src { length src.now ≤ 4096 }
         requires dst { length dst.old ≡ length src.now }
-        ensures kept { value self.new.f ≡ value self.old.f }
-        ensures same { tag_length width self.new ≡ tag_length width self.old }
+        ensures kept { F.value self.new.f ≡ F.value self.old.f }
+        ensures same { tag_length F.width self.new ≡ tag_length F.width self.old }
         ensures table { self.new.table ≡ self.old.table }
-        ensures cipher { cipher_of direction src.now dst.new ≡ cipher width feedback (value self.old.f) (text d) keystream (tag_length width self.old) (text v) (page_of direction src.now dst.new) }
+        ensures cipher { cipher_of direction src.now dst.new ≡ cipher F.width F.feedback (F.value self.old.f) (text d) K.keystream (tag_length F.width self.old) (text v) (page_of direction src.now dst.new) }
     {
         let bits = tag_bits::<F>(self.tag_len());
         let start = first_block(&mut self.f, &self.table, d, v, bits);
@@ -160,11 +160,11 @@ impl<F: Compression, K: Chaining> Scheme for TwoPass<F, K> {
         } };
 
     fn limits(&self) -> Limits {
-        limits_of(<TwoPass<_, _> as Mode>::tag_len(self))
+        limits_of(self.tag_len())
     }
 
     fn tag<'a>(&self, body: &'a [u8]) -> Option<&'a [u8]> {
-        End::Front.find_tag(body, <TwoPass<_, _> as Mode>::tag_len(self))
+        End::Front.find_tag(body, self.tag_len())
     }
 
     fn open(

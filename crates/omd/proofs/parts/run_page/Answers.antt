@@ -28,13 +28,13 @@ returns g c =
     let q = g.met.F.Compression in
     let z = q.wide.0 in
     let V = m.value c.args.f.now in
-    let go = c.pass-front-pass.ensures.going in
+    let go = c.pass_front-pass.ensures.going in
     let rs = c.requires.table.entries_are in
     record {
-      kept = c.last-block.ensures.kept ∙ c.pass-front-pass.ensures.kept;
-      cipher = λ d e. enciphered w z V c.args.table.now c.args.direction c.args.start c.args.src.now c.pass-front-pass.new.dst c.last-block.new.dst c.pass-front-pass.result (omega arith) (omega arith) c.pass-front-pass.ensures.left go c.last-block.ensures.dst (entry w fb V) d rs e;
-      tag = λ d e. c.last-block.ensures.tag
-          ∙ ended_by w fb z V (m.value c.pass-front-pass.new.f) (text c.args.table.now.star) (text c.pass-front-pass.result.offset) _ _ d c.pass-front-pass.result.index c.pass-front-pass.ensures.kept c.requires.table.star_is (go.goes (entry w fb V) d rs e).0
-          ∙ closes w z V c.args.table.now c.args.direction c.args.start c.args.src.now c.pass-front-pass.new.dst c.last-block.new.dst c.pass-front-pass.result (omega arith) (omega arith) c.pass-front-pass.ensures.left go c.last-block.ensures.dst (entry w fb V) d rs e (λ i k q. ending w fb V (star w V) (delta (entry w fb V) d i) k q);
-      long = c.last-block.ensures.long;
+      kept = c.last_block.ensures.kept ∙ c.pass_front-pass.ensures.kept;
+      cipher = λ d e. enciphered w z V c.args.table.now c.args.direction c.args.start c.args.src.now c.pass_front-pass.new.dst c.last_block.new.dst c.pass_front-pass.result (omega arith) (omega arith) c.pass_front-pass.ensures.left go c.last_block.ensures.dst (entry w fb V) d rs e;
+      tag = λ d e. c.last_block.ensures.tag
+          ∙ ended_by w fb z V (m.value c.pass_front-pass.new.f) (text c.args.table.now.star) (text c.pass_front-pass.result.offset) _ _ d c.pass_front-pass.result.index c.pass_front-pass.ensures.kept c.requires.table.star_is (go.goes (entry w fb V) d rs e).0
+          ∙ closes w z V c.args.table.now c.args.direction c.args.start c.args.src.now c.pass_front-pass.new.dst c.last_block.new.dst c.pass_front-pass.result (omega arith) (omega arith) c.pass_front-pass.ensures.left go c.last_block.ensures.dst (entry w fb V) d rs e (λ i k q. ending w fb V (star w V) (delta (entry w fb V) d i) k q);
+      long = c.last_block.ensures.long;
     }

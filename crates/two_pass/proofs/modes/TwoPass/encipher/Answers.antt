@@ -10,10 +10,10 @@ pub returns : goal.returns
 returns g c =
     let m = g.F.Compression in
     let s = c.args.self.now in
-    let b = c.first-block-start in
+    let b = c.first_block-start in
     record {
-      kept = c.pass-all.ensures.kept ∙ b.ensures.kept;
+      kept = c.pass_all.ensures.kept ∙ b.ensures.kept;
       same = refl;
       table = refl;
-      cipher = enciphers m.width m.feedback (m.value s.f) (text c.args.d) (tag_length m.width s) c.args.v c.tag-bits-bits.result (c.tag-bits-bits.ensures.block ∙ ap (λ t. digits m.width (8 * t)) c.tag-len.ensures) (m.value b.new.f) g.K.Chaining.keystream c.feed.result s.table (text b.result.offset) (text b.result.value) (cipher_of c.args.direction c.args.src.now c.pass-all.new.dst) (page_of c.args.direction c.args.src.now c.pass-all.new.dst) b.ensures.kept c.feed.ensures c.requires.filled b.ensures.offset b.ensures.value c.pass-all.ensures.cipher;
+      cipher = enciphers m.width m.feedback (m.value s.f) (text c.args.d) (tag_length m.width s) c.args.v c.tag_bits-bits.result (c.tag_bits-bits.ensures.block ∙ ap (λ t. digits m.width (8 * t)) c.tag_len.ensures) (m.value b.new.f) g.K.Chaining.keystream c.feed.result s.table (text b.result.offset) (text b.result.value) (cipher_of c.args.direction c.args.src.now c.pass_all.new.dst) (page_of c.args.direction c.args.src.now c.pass_all.new.dst) b.ensures.kept c.feed.ensures c.requires.filled b.ensures.offset b.ensures.value c.pass_all.ensures.cipher;
     }

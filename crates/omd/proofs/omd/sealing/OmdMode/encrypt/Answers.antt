@@ -13,7 +13,7 @@ returns g c =
     let s = c.args.self.now in
     let w = m.width in
     record {
-      tag = ap (λ t. min t w) c.run_tag.ensures.same;
-      kept = ap₂ (λ V t. sealed w m.feedback V (min t w)) c.run_tag.ensures.kept c.run_tag.ensures.same;
-      body = sealed_is w m.feedback (omega arith) (m.value s.f) (q.sized s.f) (tag_length w s) (omega arith) c.args.nonce.now c.args.ad.now c.args.page.now c.args.body.now c.run_tag.new.dst (text c.run_tag.result) c.write-front.new.out c.requires.body c.run_tag.ensures.cipher c.run_tag.ensures.tag c.write-front.ensures;
+      tag = ap (λ t. min t w) c.run-tag.ensures.same;
+      kept = ap₂ (λ V t. sealed w m.feedback V (min t w)) c.run-tag.ensures.kept c.run-tag.ensures.same;
+      body = sealed_is w m.feedback (omega arith) (m.value s.f) (q.sized s.f) (tag_length w s) (omega arith) c.args.nonce.now c.args.ad.now c.args.page.now c.args.body.now c.run-tag.new.dst (text c.run-tag.result) c.write_front.new.out c.requires.body c.run-tag.ensures.cipher c.run-tag.ensures.tag c.write_front.ensures;
     }

@@ -19,5 +19,5 @@ returns g c =
     record {
       tag = t3;
       kept = ap₂ (λ G n. sealed m.width m.feedback G k n) (c.tag_block.ensures.kept ∙ v2) t3;
-      recovered = recovers m.width m.feedback (omega arith) (m.value s.f) (q.sized s.f) k (tag_length m.width s) (omega arith) c.args.nonce.now c.args.ad.now (text c.prepare-d.result) c.prepare-d.ensures.offset _ _ v1 v2 c.tag-len-len.result _ _ c.tag-len-len.ensures c.block-len.ensures t1 c.args.body.now c.encipher.new.dst (text c.tag_block.result) (text c.filled-v.result) (omega arith) c.filled-v.ensures.block c.encipher.ensures.cipher c.tag_block.ensures.tag;
+      recovered = recovers m.width m.feedback (omega arith) (m.value s.f) (q.sized s.f) k (tag_length m.width s) (omega arith) c.args.nonce.now c.args.ad.now (text c.prepare-d.result) c.prepare-d.ensures.offset _ _ v1 v2 c.tag_len-len.result _ _ c.tag_len-len.ensures c.block_len.ensures t1 c.args.body.now c.encipher.new.dst (text c.tag_block.result) (text c.filled-v.result) (omega arith) c.filled-v.ensures.block c.encipher.ensures.cipher c.tag_block.ensures.tag;
     }
