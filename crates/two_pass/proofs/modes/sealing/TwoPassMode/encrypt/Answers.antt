@@ -18,5 +18,5 @@ returns g c =
     record {
       tag = c.encipher.ensures.same ∙ t2;
       kept = ap₂ (λ G n. sealed m.width m.feedback G k n) (c.encipher.ensures.kept ∙ v2) (c.encipher.ensures.same ∙ t2);
-      body = seals m.width m.feedback (omega arith) (m.value s.f) (q.sized s.f) k (tag_length m.width s) (omega arith) c.args.nonce.now c.args.ad.now (text c.prepare-d.result) c.prepare-d.ensures.offset _ _ v1 v2 c.tag_len-len.result _ _ c.tag_len-len.ensures c.block_len.ensures t2 c.args.page.now c.args.body.now (text c.tag_block-tag.result) c.as_slice.result.now (text c.filled-v.result) c.write-front.new.out c.encipher.new.dst (omega arith) c.tag_block-tag.ensures.tag c.as_slice.ensures c.filled-v.ensures.block c.write-front.ensures c.encipher.ensures.cipher;
+      body = seals m.width m.feedback (omega arith) (m.value s.f) (q.sized s.f) k (tag_length m.width s) (omega arith) c.args.nonce.now c.args.ad.now (text c.prepare-d.result) c.prepare-d.ensures.offset _ _ v1 v2 c.tag_len-len.result _ _ c.tag_len-len.ensures c.block_len.ensures t2 c.args.page.now c.args.body.now (text c.tag_block-tag.result) c.as_slice.result.now (text c.filled-v.result) c.write_front.new.out c.encipher.new.dst (omega arith) c.tag_block-tag.ensures.tag c.as_slice.ensures c.filled-v.ensures.block c.write_front.ensures c.encipher.ensures.cipher;
     }
