@@ -1,6 +1,6 @@
 -- Two parts are compared bit by bit.
-use Rattle.std.proofs.Common.{◌≡◌, ℕ, ◌+◌, ◌<◌, ◌≤◌, true, false, eqb, List, [], ◌∷◌, ◌++◌, length, get_or, take, Decides, sym, refl, ap, ◌∙◌, ap₂, arith}
-use lib.Bits.{bit_or, bit_xor, bit_and, or_add_and, and_le_l, and_le_r, xor_assoc, xor_self, xor_zero_r, xor_zero_l}
+use Rattle.std.proofs.Common.{◌≡◌, ℕ, ◌+◌, ◌<◌, ◌≤◌, false, eqb, List, [], ◌∷◌, ◌++◌, length, get_or, take, Decides, sym, ap, ◌∙◌, ap₂, arith}
+use lib.Bits.{bit_or, bit_xor, or_add_and, and_le_l, and_le_r, xor_assoc, xor_self, xor_zero_r, xor_zero_l}
 use Rattle.std.proofs.lemmas.List.{take_more, take_all, same_from_push, length-take}
 use Rattle.std.proofs.lemmas.Bool.Decides.{Decides-eqb}
 

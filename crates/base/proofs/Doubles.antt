@@ -1,5 +1,5 @@
 -- The length of what is doubled.
-use Rattle.std.proofs.Common.{◌≡◌, ℕ, zero, suc, ◌*◌, Bool, true, false, cond, leb, List, length, get_or, sym, refl, ap, ◌∙◌, arith}
+use Rattle.std.proofs.Common.{◌≡◌, ℕ, zero, suc, ◌*◌, true, false, cond, leb, List, length, get_or, refl, ◌∙◌, arith}
 use Rattle.base.specs.Bytes.{xor, digits, shifted, number, double, doubled}
 use Rattle.base.proofs.Numbers.{length-digits}
 use Rattle.base.proofs.Xors.{length-xor}

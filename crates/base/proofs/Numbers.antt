@@ -1,6 +1,6 @@
 -- Numbers as bytes, digit by digit.
 use Rattle.std.proofs.Common.{◌≡◌, ℕ, zero, suc, ◌+◌, ◌-◌, ◌*◌, ◌/◌, ◌%◌, ◌<◌, ◌≤◌, List, [], ◌∷◌, ◌++◌, length, get_or, take, drop, set, sym, refl, ap, ◌∙◌, ap₂, add-one, arith}
-use Rattle.std.proofs.lemmas.List.{take_more, take_more_set, take_all, drop-set, drop-set-lt, drop_more, get_or-drop, get_or_past, length-append, append_assoc, append-nil}
+use Rattle.std.proofs.lemmas.List.{take_more, take_more_set, take_all, drop-set, drop-set-lt, drop_more, get_or-drop, get_or_past, length-append, append_assoc}
 use Rattle.base.specs.Bytes.{digits, number, number_after, shifted}
 
 pub length-digits : (w t : ℕ) → length (digits w t) ≡ w

@@ -1,7 +1,7 @@
 -- Padding, as the code writes it, and the halves of a padded block.
-use Rattle.std.proofs.Common.{◌≡◌, ℕ, zero, suc, ◌+◌, ◌-◌, ◌*◌, ◌<◌, ◌≤◌, List, [], ◌∷◌, ◌++◌, length, take, drop, set, replicate, sym, refl, ap, ◌∙◌, le_of_suc-le-suc, arith, take-add}
+use Rattle.std.proofs.Common.{◌≡◌, ℕ, zero, suc, ◌+◌, ◌-◌, ◌*◌, ◌<◌, ◌≤◌, List, [], ◌∷◌, ◌++◌, length, take, drop, set, replicate, sym, refl, ap, ◌∙◌, arith, take-add}
 use borrow.Rule.Slice.PartMut.{post_of}
-use Rattle.std.proofs.lemmas.List.{take_at, drop_at, set_at, take-replicate, drop-replicate, length-replicate, append_assoc, append-nil, replicate-append-replicate, take-append-drop, length-drop, length-append, length-take}
+use Rattle.std.proofs.lemmas.List.{take_at, drop_at, set_at, take-replicate, drop-replicate, length-replicate, append_assoc, replicate-append-replicate, take-append-drop, length-append, length-take}
 use Rattle.base.specs.Bytes.{filled, padded, zeros}
 use Rattle.base.proofs.Parts.{from_zero}
 

@@ -1,7 +1,7 @@
 -- One turn of a pass over a slice from its front.
-use Rattle.std.proofs.Common.{◌≡◌, ℕ, ◌+◌, ◌*◌, ◌/◌, ◌%◌, ◌<◌, ◌≤◌, min, List, [], ◌∷◌, ◌++◌, length, get_or, take, drop, set, sym, refl, ap, ◌∙◌, inl, inr, arith}
+use Rattle.std.proofs.Common.{◌≡◌, ℕ, ◌+◌, ◌<◌, ◌≤◌, min, List, [], ◌∷◌, ◌++◌, length, get_or, take, drop, set, sym, refl, ap, ◌∙◌, inl, inr, arith}
 use lib.Bits.{bit_xor}
-use Rattle.std.proofs.lemmas.List.{take_more_set, drop_more, drop-set-lt, append_assoc, drop_all, append-nil, take_all, length-drop, take-append-drop}
+use Rattle.std.proofs.lemmas.List.{take_more_set, drop_more, drop-set-lt, append_assoc, drop_all, append-nil, take-append-drop}
 use Rattle.base.specs.Bytes.{xor}
 use Rattle.std.proofs.lemmas.Bool.Decides.{leb_tells}
 

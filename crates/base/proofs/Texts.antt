@@ -1,8 +1,8 @@
 -- What blocks hold.
-use Rattle.std.proofs.Common.{◌≡◌, ℕ, zero, suc, ◌+◌, ◌-◌, ◌<◌, ◌≤◌, min, List, [], ◌∷◌, ◌++◌, length, get_or, take, drop, replicate, sym, refl, ap, ◌∙◌, arith}
+use Rattle.std.proofs.Common.{◌≡◌, ℕ, zero, suc, ◌-◌, ◌≤◌, min, List, [], ◌∷◌, ◌++◌, length, take, drop, replicate, refl, ap, ◌∙◌, arith}
 use lib.Bits.{bit_xor}
 use borrow.Rule.Slice.PartMut.{post_of}
-use Rattle.std.proofs.lemmas.List.{length-take, length-replicate, get_or-take, drop_all, append-nil}
+use Rattle.std.proofs.lemmas.List.{length-take, length-replicate, drop_all, append-nil}
 use Rattle.base.specs.Bytes.{xor}
 use Rattle.base.proofs.Parts.{from_zero, front_take}
 

@@ -1,5 +1,5 @@
 -- Strings of bytes: exclusive or, numbers, padding, blocks, and doubling.
-use Rattle.std.specs.Prelude.{◌≡◌, ℕ, zero, suc, ◌+◌, ◌-◌, ◌*◌, ◌/◌, ◌%◌, ◌<◌, min, cond, List, [], ◌∷◌, ◌++◌, length, take, drop, replicate, bit_xor, nat_le, slice_index}
+use Rattle.std.specs.Prelude.{◌≡◌, ℕ, zero, suc, ◌+◌, ◌*◌, ◌/◌, ◌%◌, ◌<◌, min, cond, List, [], ◌∷◌, ◌++◌, length, take, drop, replicate, bit_xor, nat_le, slice_index}
 use Rattle.std.specs.List.{AllByRecursion as All}
 
 -- each element is a byte

@@ -1,6 +1,6 @@
 -- The schedule and the rounds, one turn after the other.
-use Rattle.std.proofs.Common.{◌≡◌, ℕ, zero, suc, ◌+◌, ◌-◌, ◌<◌, ◌≤◌, List, [], ◌∷◌, ◌++◌, map, length, get_or, take, set, sym, refl, ap, ◌∙◌, ap₂, not-suc-le-zero, add-one, arith}
-use Rattle.std.proofs.lemmas.List.{get_or-take, get_or-map, take_more, take_more_set, take-set-le, length-take-le, take_all, map-set, length-map, length-set}
+use Rattle.std.proofs.Common.{◌≡◌, ℕ, suc, ◌+◌, ◌-◌, ◌<◌, ◌≤◌, List, [], ◌∷◌, ◌++◌, length, get_or, take, set, sym, refl, ap, ◌∙◌, ap₂, add-one, arith}
+use Rattle.std.proofs.lemmas.List.{get_or-take, take_more, take_more_set, take-set-le, length-take-le, take_all}
 use Rattle.fips180.specs.Words.{Sizes}
 use Rattle.fips180.specs.Compression.{word_at, schedule, round, rounds, worked}
 use Rattle.fips180.specs.declared.state.State.{State}

@@ -1,8 +1,8 @@
 -- The words of a string of bytes.
-use Rattle.std.proofs.Common.{◌≡◌, ℕ, zero, suc, ◌+◌, ◌-◌, ◌*◌, ◌<◌, ◌≤◌, List, [], ◌∷◌, ◌++◌, map, length, get_or, take, drop, set, sym, refl, ap, ◌∙◌, not-suc-le-zero, mul-le-mul_left, mul-zero, mul-one, mul-suc, mul-add, add-one, arith}
+use Rattle.std.proofs.Common.{◌≡◌, ℕ, zero, suc, ◌+◌, ◌*◌, ◌<◌, ◌≤◌, List, [], ◌∷◌, ◌++◌, map, length, get_or, take, drop, sym, ap, ◌∙◌, mul-zero, mul-one, mul-suc, mul-add, arith}
 use lib.Seq.{take-append-le}
-use Rattle.std.proofs.lemmas.List.{drop-drop, drop-append-le, length-drop, length-append, take_more, take_more_set, map-set, length-map, append_assoc, take_all}
-use Rattle.base.specs.Bytes.{number, cut}
+use Rattle.std.proofs.lemmas.List.{drop-drop, drop-append-le, length-drop, length-append}
+use Rattle.base.specs.Bytes.{number}
 use Rattle.base.proofs.Cuts.{cut_more, cut-nil}
 use Rattle.fips180.specs.Words.{Sizes}
 use Rattle.fips180.specs.Compression.{words}

@@ -1,5 +1,5 @@
 -- Trailing zeros of small numbers.
-use Rattle.std.proofs.Common.{◌≡◌, ℕ, zero, suc, ◌+◌, ◌*◌, ◌/◌, ◌%◌, ◌^◌, ◌<◌, ◌≤◌, refl, pow-suc, arith}
+use Rattle.std.proofs.Common.{◌≡◌, ℕ, zero, suc, ◌*◌, ◌/◌, ◌%◌, ◌^◌, ◌<◌, refl, pow-suc, arith}
 use lib.Count.{count_trailing_zeros, under}
 
 under_below : (r t m : ℕ) → (r ≡ 0 → t < m) → under r t < suc m

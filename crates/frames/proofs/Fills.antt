@@ -1,11 +1,10 @@
 -- That a table is filled.
-use Rattle.std.proofs.Common.{◌≡◌, ℕ, ◌<◌, ◌≤◌, List, length, get_or, sym, refl, ap, ◌∙◌, arith}
+use Rattle.std.proofs.Common.{◌≡◌, ℕ, List, length, ap, ◌∙◌}
 use Rattle.base.specs.declared.block.Block.{Block}
 use Rattle.base.specs.Bytes.{zeros, doubled}
 use Rattle.base.specs.Text.{text}
 use Rattle.base.proofs.Doubles.{length-doubled}
-use Rattle.frames.specs.declared.offsets.OffsetTable.{OffsetTable}
-use Rattle.frames.specs.Offsets.{star, Doublings, Entries, Filled, Wide}
+use Rattle.frames.specs.Offsets.{star, Doublings, Filled}
 
 pub filled : (w fb start : ℕ) (V : List ℕ → List ℕ → List ℕ) (z s first : Block) (entries : List Block) (v fb' : ℕ) → v ≡ w → fb' ≡ fb → text z ≡ zeros v → text s ≡ V (text z) (text z) → text first ≡ doubled fb' start (text s) → Doublings fb' (text first) 8 entries → length (text s) ≡ w → Filled w fb start (star w V) (record { star = s; entries = entries })
 filled w fb start V z s first entries v fb' e d n o r up l =

@@ -1,5 +1,5 @@
 -- One turn more of a pass.
-use Rattle.std.proofs.Common.{◌≡◌, ℕ, zero, suc, ◌+◌, ◌-◌, ◌*◌, ◌<◌, ◌≤◌, List, [], ◌∷◌, ◌++◌, length, take, drop, sym, refl, ap, ◌∙◌, add-one, arith, take-add}
+use Rattle.std.proofs.Common.{◌≡◌, ℕ, suc, ◌+◌, ◌-◌, ◌<◌, ◌≤◌, List, ◌++◌, length, take, drop, sym, refl, ap, ◌∙◌, add-one, arith, take-add}
 use borrow.Rule.Slice.PartMut.{put_mid}
 use Rattle.std.proofs.lemmas.List.{length-take, length-drop}
 use Rattle.std.proofs.lemmas.Slice.{take-put_mid}
@@ -8,8 +8,8 @@ use Rattle.base.specs.Text.{text}
 use Rattle.base.proofs.Xors.{length-xor, xor_undo}
 use Rattle.frames.specs.Chain.{fed}
 use Rattle.frames.specs.Directions.{page_of, cipher_of}
-use Rattle.frames.specs.Offsets.{Entries, delta}
-use Rattle.frames.specs.Progress.{Done, Going, PassOf, Turned}
+use Rattle.frames.specs.Offsets.{delta}
+use Rattle.frames.specs.Progress.{Going, PassOf, Turned}
 use Rattle.frames.specs.declared.offsets.OffsetTable.{OffsetTable}
 use Rattle.frames.specs.declared.pass.Direction.{Direction}
 use Rattle.frames.specs.declared.pass.Direction.TheVariants.{Seal, Open}

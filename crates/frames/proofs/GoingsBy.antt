@@ -1,14 +1,14 @@
 -- One turn more of a pass that goes by a rule.
-use Rattle.std.proofs.Common.{◌≡◌, ℕ, zero, suc, ◌+◌, ◌-◌, ◌*◌, ◌<◌, ◌≤◌, List, [], ◌∷◌, ◌++◌, length, take, drop, sym, refl, ap, ◌∙◌, add-one, arith}
+use Rattle.std.proofs.Common.{◌≡◌, ℕ, suc, ◌+◌, ◌-◌, ◌<◌, ◌≤◌, List, length, take, drop, sym, refl, ap, ◌∙◌, add-one, arith}
 use borrow.Rule.Slice.PartMut.{put_mid}
 use Rattle.std.proofs.lemmas.List.{length-take, length-drop}
 use Rattle.base.specs.Bytes.{xor}
 use Rattle.base.specs.Text.{text}
 use Rattle.base.proofs.Xors.{length-xor}
-use Rattle.frames.specs.Directions.{page_of, cipher_of}
+use Rattle.frames.specs.Directions.{page_of}
 use Rattle.frames.specs.Feeds.{next_by}
-use Rattle.frames.specs.Offsets.{Entries, delta}
-use Rattle.frames.specs.Progress.{Done, PassOf}
+use Rattle.frames.specs.Offsets.{delta}
+use Rattle.frames.specs.Progress.{PassOf}
 use Rattle.frames.specs.Rules.{GoingBy, TurnedBy}
 use Rattle.frames.specs.declared.offsets.OffsetTable.{OffsetTable}
 use Rattle.frames.specs.declared.pass.Pass.{Pass}

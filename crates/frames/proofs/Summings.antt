@@ -1,7 +1,7 @@
 -- One block more in a sum.
-use Rattle.std.proofs.Common.{◌≡◌, ℕ, zero, suc, ◌+◌, ◌-◌, ◌*◌, ◌<◌, ◌≤◌, List, [], ◌∷◌, ◌++◌, length, take, drop, sym, refl, ap, ◌∙◌, add-one, arith}
+use Rattle.std.proofs.Common.{◌≡◌, ℕ, suc, ◌+◌, ◌-◌, ◌*◌, ◌<◌, ◌≤◌, List, ◌∷◌, length, take, drop, sym, ap, ◌∙◌, add-one, arith}
 use Rattle.std.proofs.lemmas.List.{length-take, length-drop, drop-drop}
-use Rattle.base.specs.Bytes.{cut, padded, xor}
+use Rattle.base.specs.Bytes.{cut, xor}
 use Rattle.base.specs.Text.{text}
 use Rattle.base.proofs.Cuts.{cut_more}
 use Rattle.base.proofs.Pads.{padded_full}

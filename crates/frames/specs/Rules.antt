@@ -1,5 +1,5 @@
 -- How far a pass has come that goes by a rule.
-use Rattle.std.specs.Prelude.{◌≡◌, ℕ, suc, ◌+◌, ◌*◌, ◌<◌, ◌≤◌, List, length, take}
+use Rattle.std.specs.Prelude.{◌≡◌, ℕ, ◌+◌, ◌*◌, ◌<◌, ◌≤◌, List, length, take}
 use Rattle.std.specs.Int.Count.{count_trailing_zeros}
 use Rattle.base.specs.Bytes.{xor}
 use Rattle.base.specs.Text.{text}

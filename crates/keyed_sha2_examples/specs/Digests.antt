@@ -1,5 +1,5 @@
 -- FIPS 180-4, sections 5 and 6: whole digests, from the compression alone, and the standard's worked examples.
-use Rattle.std.specs.Prelude.{◌≡◌, ℕ, ◌+◌, ◌-◌, ◌*◌, ◌%◌, List, [], ◌∷◌, ◌++◌, length, codes, fold}
+use Rattle.std.specs.Prelude.{◌≡◌, ℕ, ◌+◌, ◌-◌, ◌*◌, ◌%◌, List, ◌∷◌, ◌++◌, length, codes, fold}
 use Rattle.base.specs.Bytes.{zeros, digits, cut}
 use Rattle.fips180.specs.Words.{Sizes, sha256, sha512}
 use Rattle.fips180.specs.Compression.{compressed}

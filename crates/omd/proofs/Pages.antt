@@ -1,10 +1,10 @@
 -- A run of OMD over a page and its associated data, as the definitions have it.
-use Rattle.std.proofs.Common.{◌≡◌, ℕ, suc, ◌+◌, ◌-◌, ◌*◌, ◌<◌, ◌≤◌, Bool, true, false, cond, ltb, List, ◌++◌, length, take, drop, sym, refl, ap, ◌∙◌, add-one, arith}
+use Rattle.std.proofs.Common.{◌≡◌, ℕ, suc, ◌+◌, ◌-◌, ◌*◌, ◌<◌, ◌≤◌, cond, ltb, List, length, take, drop, ap, ◌∙◌, add-one, arith}
 use lib.Count.{count_trailing_zeros}
 use Rattle.std.proofs.lemmas.List.{length-take, length-drop}
-use Rattle.base.specs.Bytes.{xor, zeros, padded, digits, cut}
+use Rattle.base.specs.Bytes.{xor, zeros, padded, digits}
 use Rattle.base.specs.Text.{text}
-use Rattle.frames.specs.Chain.{hashed, tally, closed}
+use Rattle.frames.specs.Chain.{hashed, closed}
 use Rattle.frames.specs.Offsets.{Entries, Filled, delta, star}
 use Rattle.frames.specs.Progress.{Summing}
 use Rattle.frames.specs.declared.offsets.OffsetTable.{OffsetTable}

@@ -1,14 +1,14 @@
 -- A body has the page's length and the tag's, and tells its page.
-use Rattle.std.specs.Prelude.{◌≡◌, ℕ, suc, ◌+◌, ◌-◌, ◌*◌, ◌<◌, ◌≤◌, min, Bool, true, false, cond, List, [], ◌∷◌, ◌++◌, length, take, drop, nat_lt, refl}
+use Rattle.std.specs.Prelude.{◌≡◌, ℕ, suc, ◌+◌, ◌-◌, ◌*◌, ◌<◌, ◌≤◌, Bool, true, false, cond, List, ◌++◌, length, take, drop, nat_lt}
 use Rattle.std.proofs.Math.Path.{sym, ap, ap₂}
 use Rattle.std.proofs.Common.{◌∙◌, arith}
 use borrow.Rule.Slice.PartMut.{put_mid, post_of}
 use Rattle.std.proofs.lemmas.List.{length-replicate, length-take, length-drop, length-append, take_at, drop_at, take-append-drop}
-use Rattle.base.specs.Bytes.{xor, zeros, padded, digits, double, doubled, cut}
+use Rattle.base.specs.Bytes.{xor, zeros, padded, digits, double, doubled}
 use Rattle.base.proofs.Doubles.{length-double, length-doubled}
 use Rattle.base.proofs.Numbers.{length-digits}
 use Rattle.base.proofs.Pads.{length-padded}
-use Rattle.base.proofs.Parts.{from_zero, part_end, put_end}
+use Rattle.base.proofs.Parts.{from_zero, put_end}
 use Rattle.base.proofs.Xors.{length-xor}
 use Rattle.frames.specs.Chain.{fed, closed}
 use Rattle.frames.specs.Offsets.{delta, star}

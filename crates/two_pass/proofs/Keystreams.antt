@@ -1,5 +1,5 @@
 -- A pass under kind 6 is the mode's ciphertext.
-use Rattle.std.proofs.Common.{◌≡◌, ℕ, suc, ◌*◌, List, sym, refl, ap, ◌∙◌, ap₂}
+use Rattle.std.proofs.Common.{◌≡◌, ℕ, suc, ◌*◌, List, refl, ap, ◌∙◌, ap₂}
 use Rattle.base.specs.declared.block.Block.{Block}
 use Rattle.base.specs.Bytes.{xor, digits, cut}
 use Rattle.base.specs.Text.{text}

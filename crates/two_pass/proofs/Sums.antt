@@ -1,5 +1,5 @@
 -- Kinds, and the sums over associated data and page.
-use Rattle.std.proofs.Common.{◌≡◌, ℕ, suc, ◌+◌, ◌-◌, ◌*◌, ◌/◌, ◌%◌, ◌<◌, ◌≤◌, Bool, cond, ltb, List, [], ◌∷◌, ◌++◌, length, take, drop, sym, refl, ap, ◌∙◌, ap₂, not-suc-le-zero, add-one, arith}
+use Rattle.std.proofs.Common.{◌≡◌, ℕ, suc, ◌+◌, ◌-◌, ◌*◌, ◌/◌, ◌<◌, ◌≤◌, cond, ltb, List, [], ◌∷◌, length, take, drop, sym, refl, ap, ◌∙◌, ap₂, not-suc-le-zero, add-one, arith}
 use lib.Count.{count_trailing_zeros}
 use Rattle.std.proofs.lemmas.List.{length-take, length-drop}
 use Rattle.base.specs.declared.block.Block.{Block}
@@ -10,7 +10,7 @@ use Rattle.base.proofs.Doubles.{length-doubled}
 use Rattle.base.proofs.Xors.{xor_undo}
 use Rattle.frames.specs.Chain.{hashed, closed, tally}
 use Rattle.frames.specs.Offsets.{Entries, Filled, delta, star}
-use Rattle.frames.specs.Progress.{PassOf, Summing}
+use Rattle.frames.specs.Progress.{Summing}
 use Rattle.frames.specs.declared.offsets.OffsetTable.{OffsetTable}
 use Rattle.frames.specs.declared.pass.Pass.{Pass}
 use Rattle.frames.proofs.Laws.{delta_start, length-delta}

@@ -1,10 +1,10 @@
 -- A body has the page's length and the tag's, and tells its page.
-use Rattle.std.specs.Prelude.{◌≡◌, ℕ, suc, ◌+◌, ◌-◌, ◌*◌, ◌/◌, ◌%◌, ◌<◌, ◌≤◌, Bool, true, false, cond, List, [], ◌∷◌, ◌++◌, length, take, drop, ◌==◌, refl}
+use Rattle.std.specs.Prelude.{◌≡◌, ℕ, suc, ◌+◌, ◌-◌, ◌*◌, ◌/◌, ◌%◌, ◌<◌, ◌≤◌, true, false, cond, List, [], ◌∷◌, ◌++◌, length, take, drop, ◌==◌}
 use Rattle.std.proofs.Math.Path.{sym, ap, ap₂}
 use Rattle.std.proofs.Common.{◌∙◌, arith}
 use borrow.Rule.Slice.PartMut.{put_mid, post_of}
 use Rattle.std.proofs.lemmas.List.{length-take, length-drop, length-append, take_at, drop_at, take-append-drop}
-use Rattle.base.specs.Bytes.{xor, zeros, padded, filled, digits, double, doubled}
+use Rattle.base.specs.Bytes.{xor, zeros, padded, filled, digits}
 use Rattle.base.proofs.Doubles.{length-double, length-doubled}
 use Rattle.base.proofs.Numbers.{length-digits}
 use Rattle.base.proofs.Pads.{length-filled, length-padded}

@@ -1,4 +1,3 @@
-use Rattle.std.proofs.Common.{arith}
 use Rattle.base.proofs.Pads.{fill_is}
 use Rattle.base.proofs.slices.fill_into.Goals as goal
 

@@ -1,4 +1,4 @@
-use Rattle.std.proofs.Common.{◌≡◌, ℕ, length, sym, ap, ◌∙◌, ap₂, arith}
+use Rattle.std.proofs.Common.{length, ap, ◌∙◌, ap₂, arith}
 use Rattle.base.proofs.Parts.{front_take}
 use Rattle.compression.proofs.compression.step.Goals as goal
 

@@ -1,4 +1,4 @@
-use Rattle.std.proofs.Common.{◌≡◌, ℕ, ◌+◌, ◌*◌, ◌<◌, ◌≤◌, List, ◌++◌, map, length, take, sym, ap, ◌∙◌, ap₂, append-nil, arith}
+use Rattle.std.proofs.Common.{◌+◌, ◌*◌, ◌<◌, ◌≤◌, map, length, ◌∙◌, arith}
 use Rattle.fips180.specs.Compression.{words}
 use Rattle.fips180.proofs.Mapped.{loaded_none, loaded_more, loaded_all, slot_fits}
 use Rattle.fips180.proofs.Strings.{words_at, words_length}

@@ -1,6 +1,6 @@
-use Rattle.std.proofs.Common.{◌≡◌, ℕ, ◌+◌, ◌-◌, ◌<◌, List, map, length, get_or, take, set, sym, ap, ◌∙◌, subst, arith}
+use Rattle.std.proofs.Common.{◌≡◌, ℕ, ◌+◌, ◌-◌, ◌<◌, List, map, length, get_or, take, sym, ap, ◌∙◌, subst, arith}
 use Rattle.std.proofs.lemmas.List.{length-map, map-set}
-use Rattle.fips180.specs.Compression.{round, word_at, added, worked}
+use Rattle.fips180.specs.Compression.{round, added}
 use Rattle.fips180.specs.Values.{values}
 use Rattle.fips180.specs.declared.state.State.{State}
 use Rattle.fips180.proofs.Mapped.{read-map}

@@ -1,4 +1,4 @@
-use Rattle.std.proofs.Common.{◌≡◌, sym, refl, ap, ◌∙◌, arith}
+use Rattle.std.proofs.Common.{refl, ap, ◌∙◌, arith}
 use Rattle.base.specs.Bytes.{xor}
 use Rattle.base.specs.Text.{text}
 use Rattle.frames.specs.Feeds.{next_by}

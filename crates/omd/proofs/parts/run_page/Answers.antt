@@ -1,4 +1,4 @@
-use Rattle.std.proofs.Common.{◌≡◌, sym, refl, ap, ◌∙◌, arith}
+use Rattle.std.proofs.Common.{refl, ◌∙◌, arith}
 use Rattle.base.specs.Text.{text}
 use Rattle.frames.specs.Chain.{fed}
 use Rattle.frames.specs.Offsets.{delta, star}

@@ -1,4 +1,4 @@
-use Rattle.std.proofs.Common.{◌≡◌, sym, refl, ap, ◌∙◌, arith}
+use Rattle.std.proofs.Common.{refl, ◌∙◌, arith}
 use Rattle.base.specs.Text.{text}
 use Rattle.omd.proofs.Pages.{empty_ad, ad_summed}
 use Rattle.omd.proofs.parts.sum_ad.Goals as goal

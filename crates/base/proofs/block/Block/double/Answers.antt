@@ -1,4 +1,4 @@
-use Rattle.std.proofs.Common.{◌≡◌, Bool, cond, length, sym, ap, ◌∙◌}
+use Rattle.std.proofs.Common.{◌≡◌, cond, length, sym, ap, ◌∙◌}
 use Rattle.base.specs.Bytes.{xor, shifted, digits, double}
 use Rattle.base.specs.Text.{text}
 use Rattle.base.proofs.Doubles.{length-double}

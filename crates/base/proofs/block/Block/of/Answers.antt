@@ -1,4 +1,4 @@
-use Rattle.std.proofs.Common.{length, ap, ◌∙◌}
+use Rattle.std.proofs.Common.{length, ap}
 use Rattle.base.specs.Text.{text}
 use Rattle.base.proofs.Texts.{front_text}
 use Rattle.base.proofs.block.Block.of.Goals as goal

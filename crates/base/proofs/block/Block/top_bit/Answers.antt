@@ -1,4 +1,4 @@
-use Rattle.std.proofs.Common.{◌≡◌, ◌<◌, leb, get_or, take, sym, refl, ap, ◌∙◌, arith}
+use Rattle.std.proofs.Common.{◌<◌, leb, get_or, take, sym, ap, arith}
 use Rattle.std.proofs.lemmas.List.{get_or-take}
 use Rattle.base.specs.Text.{text}
 use Rattle.base.proofs.block.Block.top_bit.Goals as goal

@@ -1,4 +1,4 @@
-use Rattle.std.proofs.Common.{◌≡◌, ◌*◌, sym, ◌∙◌, arith}
+use Rattle.std.proofs.Common.{arith}
 use Rattle.fips180.proofs.Strings.{words_at}
 use Rattle.fips180.proofs.state.State.read.Goals as goal
 

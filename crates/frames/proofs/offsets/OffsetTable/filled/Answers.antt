@@ -1,4 +1,3 @@
-use Rattle.std.proofs.Common.{arith}
 use Rattle.frames.proofs.Fills.{filled}
 use Rattle.frames.proofs.offsets.OffsetTable.filled.Goals as goal
 

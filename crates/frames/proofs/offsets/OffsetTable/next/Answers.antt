@@ -1,4 +1,4 @@
-use Rattle.std.proofs.Common.{◌≡◌, ◌<◌, min, length, sym, ap, ◌∙◌, arith}
+use Rattle.std.proofs.Common.{min, length, ap, ◌∙◌, arith}
 use Rattle.base.specs.Bytes.{xor}
 use Rattle.base.specs.Text.{text}
 use Rattle.frames.proofs.Counts.{ntz_below}

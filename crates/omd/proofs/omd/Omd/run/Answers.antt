@@ -1,8 +1,7 @@
-use Rattle.std.proofs.Common.{◌≡◌, sym, refl, ap, ◌∙◌, subst, ap₂, arith}
+use Rattle.std.proofs.Common.{◌≡◌, ◌∙◌, ap₂, arith}
 use Rattle.base.specs.Bytes.{xor}
 use Rattle.base.specs.Text.{text}
 use Rattle.frames.specs.Directions.{page_of, cipher_of}
-use Rattle.frames.specs.Offsets.{Filled, star}
 use Rattle.omd.specs.Omd.{ad_tag}
 use Rattle.omd.proofs.Pages.{run_cipher, run_tag}
 use Rattle.omd.proofs.omd.Omd.run.Goals as goal

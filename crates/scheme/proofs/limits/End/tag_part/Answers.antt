@@ -1,6 +1,6 @@
-use Rattle.std.proofs.Common.{◌≡◌, ◌-◌, length, take, drop, sym, ap, ◌∙◌, arith}
+use Rattle.std.proofs.Common.{◌-◌, length, sym, ap, ◌∙◌, arith}
 use Rattle.std.proofs.lemmas.List.{length-take, length-drop}
-use Rattle.base.proofs.Parts.{part_end, from_zero}
+use Rattle.base.proofs.Parts.{part_end}
 use Rattle.scheme.specs.Meaning.{tag_part}
 use Rattle.scheme.proofs.limits.End.tag_part.Goals as goal
 

@@ -1,4 +1,4 @@
-use Rattle.std.proofs.Common.{◌≡◌, ◌*◌, refl, ap, ◌∙◌}
+use Rattle.std.proofs.Common.{◌*◌, refl, ap, ◌∙◌}
 use Rattle.base.specs.Bytes.{digits}
 use Rattle.base.specs.Text.{text}
 use Rattle.frames.specs.Directions.{page_of, cipher_of}

@@ -1,4 +1,4 @@
-use Rattle.std.proofs.Common.{◌≡◌, ◌≤◌, min, ap, ◌∙◌, ap₂, arith}
+use Rattle.std.proofs.Common.{min, ap, ap₂, arith}
 use Rattle.base.specs.Text.{text}
 use Rattle.omd.specs.Means.{tag_length}
 use Rattle.omd.specs.Omd.{sealed}

@@ -1,4 +1,4 @@
-use Rattle.std.proofs.Common.{◌≡◌, ◌∙◌, ap₂, arith}
+use Rattle.std.proofs.Common.{◌∙◌, ap₂, arith}
 use Rattle.base.specs.Text.{text}
 use Rattle.two_pass.specs.Means.{tag_length}
 use Rattle.two_pass.specs.TwoPass.{sealed}
