@@ -11,7 +11,7 @@ printf 'base:\nscheme: base\n' >"$copy/crates.txt"
 cd "$copy"
 sed -i 's/^    guard\.released = /    let _peek = page.len();\n&/' crates/scheme/src/guard.rt
 words='error\[borrow-e0502\]: cannot borrow `\*page` as immutable because it is also borrowed as mutable'
-if rt dev scheme 2>&1 | grep -q "$words"; then
+if (cd crates/scheme && rt check) 2>&1 | grep -q "$words"; then
     echo "refused, as it must be: the output is read while the guard stands"
 else
     echo "NOT refused: the output is read while the guard stands"

@@ -19,7 +19,7 @@ pub struct Narrow<S: Scheme> {
 
 impl<S: Scheme> Narrow<S> {
     pub fn new(below: S) -> Self
-        ensures { narrowed (meaning result.below) ≡ narrowed (meaning below) }
+        ensures { narrowed (S.meaning result.below) ≡ narrowed (S.meaning below) }
     {
         Narrow { below }
     }

@@ -3,8 +3,8 @@ use crate::narrow::Narrow;
 use address::address::Addressed;
 use base::refusal::{Cause, Refusal};
 use compression::keyed::Keyed;
-use scheme::scheme::Scheme;
 use keyed_sha2::sha256::Sha256;
+use scheme::scheme::Scheme;
 use std::process::Abort;
 use two_pass::modes::Counter;
 

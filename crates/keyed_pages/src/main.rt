@@ -5,10 +5,10 @@
 use address::address::Addressed;
 use compression::compression::Compression;
 use compression::keyed::Keyed;
-use omd::omd::Omd;
-use scheme::scheme::Scheme;
 use keyed_sha2::sha256::Sha256;
 use keyed_sha2::sha512::Sha512;
+use omd::omd::Omd;
+use scheme::scheme::Scheme;
 use show::{to_cells, to_hex};
 use std::io;
 use two_pass::modes::Counter;
