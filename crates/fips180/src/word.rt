@@ -2,7 +2,7 @@
 ghost use Rattle.std.specs.Prelude.{◌≡◌, ℕ, ◌+◌, ◌*◌, ◌<◌, ◌≤◌, ◌++◌, length, take, drop, bit_and, bit_xor, slice_index};
 ghost use Rattle.std.proofs.Math.Path.{refl};
 ghost use Rattle.base.specs.Bytes.{number, digits};
-ghost use Rattle.fips180.specs.Words.{Sizes, sha256, sha512, plus as sum, complement, ch as choice, maj as majority, big_sigma, small_sigma};
+ghost use Rattle.fips180.specs.Words.{Sizes, sha256, sha512, plus, complement, ch as choice, maj as majority, big_sigma, small_sigma};
 ghost use Rattle.fips180.specs.Constants.{constants256, constants512};
 ghost use Rattle.std.proofs.Common.{rules};
 
@@ -31,7 +31,7 @@ pub trait Word: Copy {
         ensures { bytes.new ≡ take (sizes.bytes * i) bytes.old ++ (digits sizes.bytes (val self) ++ drop (sizes.bytes * (i + 1)) bytes.old) };
 
     fn plus(self, y: Self) -> Self
-        ensures { val result ≡ sum sizes (val self) (val y) };
+        ensures { val result ≡ plus sizes (val self) (val y) };
 
     fn xor(self, y: Self) -> Self
         ensures { val result ≡ bit_xor (val self) (val y) };

@@ -1,12 +1,12 @@
 -- The three modes over SHA-256 and SHA-512, computed by their definitions, against the bytes of the second program. A field
--- `counter sha256-mode 133 168` has what tools/modes.py prints for the line `counter sha256 20 16 12 133 168`: a tag of 20
+-- `counter sha256_mode 133 168` has what tools/modes.py prints for the line `counter sha256 20 16 12 133 168`: a tag of 20
 -- bytes, a key of 16, a nonce of 12, 133 bytes of associated data and a page of 168.
 use Rattle.std.specs.Prelude.{ℕ, zero, suc, ◌+◌, ◌*◌, ◌%◌, List, [], ◌∷◌, ◌≡◌}
 use Rattle.base.specs.Bytes.{digits}
 use Rattle.fips180.specs.Words.{Sizes, sha256, sha512}
 use Rattle.keyed_sha2.specs.Keys.{keyed}
-use Rattle.omd.specs.Omd.{sealed as by-omd}
-use Rattle.two_pass.specs.TwoPass.{sealed as by-two-pass}
+use Rattle.omd.specs.Omd.{sealed as by_omd}
+use Rattle.two_pass.specs.TwoPass.{sealed as by_two_pass}
 use Rattle.two_pass.specs.declared.keystream.Keystream.{Keystream}
 use Rattle.two_pass.specs.declared.keystream.Keystream.TheVariants.{Serial, Counter}
 
@@ -32,10 +32,10 @@ F k = keyed k.sizes (row 16 7 13)
 
 -- the body of a page of p bytes with a bytes of associated data
 abbrev pub omd : Kind → ℕ → ℕ → List ℕ
-omd k a p = by-omd (8 * k.sizes.bytes) k.feedback (F k) 20 (row 12 16 1) (row a 5 11) (row p 3 7)
+omd k a p = by_omd (8 * k.sizes.bytes) k.feedback (F k) 20 (row 12 16 1) (row a 5 11) (row p 3 7)
 
 abbrev pub two_pass : Keystream → Kind → ℕ → ℕ → List ℕ
-two_pass s k a p = by-two-pass (8 * k.sizes.bytes) k.feedback (F k) s 20 (row 12 16 1) (row a 5 11) (row p 3 7)
+two_pass s k a p = by_two_pass (8 * k.sizes.bytes) k.feedback (F k) s 20 (row 12 16 1) (row a 5 11) (row p 3 7)
 
 abbrev pub serial : Kind → ℕ → ℕ → List ℕ
 serial = two_pass Serial
