@@ -33,8 +33,8 @@ fn sealed<S: Scheme>(rt: &impl Abort, scheme: &mut S, ad: &[u8]) -> [u8; 46] {
 fn opens<S: Scheme>(rt: &impl Abort, scheme: &mut S, ad: &[u8], body: &[u8]) {
     let mut out = [BEFORE; 40];
     assert_eq!(rt; scheme.open(&NONCE, ad, body, &mut out), Ok(30));
-    assert_eq!(rt; &out[0..30], PAGE);
-    assert_eq!(rt; &out[30..40], &[BEFORE; 10]);
+    assert_eq!(rt; &out[0..30], PAGE.as_slice());
+    assert_eq!(rt; &out[30..40], [BEFORE; 10].as_slice());
 }
 
 // The scheme refuses the body, and zeros stand where the page would.
@@ -46,8 +46,8 @@ fn refuses<S: Scheme>(rt: &impl Abort, scheme: &mut S, ad: &[u8], body: &[u8]) {
         figure: 0,
     };
     assert_eq!(rt; scheme.open(&NONCE, ad, body, &mut out), Err(refusal));
-    assert_eq!(rt; &out[0..30], &[0; 30]);
-    assert_eq!(rt; &out[30..40], &[BEFORE; 10]);
+    assert_eq!(rt; &out[0..30], [0; 30].as_slice());
+    assert_eq!(rt; &out[30..40], [BEFORE; 10].as_slice());
 }
 
 // The scheme refuses so much associated data in both ways, and changes nothing.

@@ -12,7 +12,6 @@ pub fn examples_hold()
 
 #[cfg(test)]
 mod tests {
-    use base::refusal::{Cause, Refusal};
     use compression::trial::Trial;
     use scheme::scheme::Scheme;
     use std::process::Abort;

@@ -115,6 +115,6 @@ mod tests {
         let mut expected = [0; 64];
         expected[62] = 0x01;
         expected[63] = 0x25;
-        assert_eq!(rt; wide.as_slice(), &expected);
+        assert_eq!(rt; wide.as_slice(), expected.as_slice());
     }
 }
