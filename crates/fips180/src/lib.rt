@@ -1,5 +1,5 @@
 // The compression of SHA-256 and of SHA-512 on words and blocks, by one code over the word type.
-// Internal: functions here ask lengths of their caller. The keyed functions over it are in `sha2`.
+// Internal: functions here ask lengths of their caller. The keyed functions over it are in `keyed_sha2`.
 // Read first: specs/Words.antt, then specs/Compression.antt, beside FIPS 180-4.
 #![tactic(auto)]
 
