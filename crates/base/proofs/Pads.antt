@@ -47,14 +47,21 @@ fill_is w old part front h z f =
     rw (r, f) (sym (filled_as w (w - length part) part (omega arith)))
 
 -- 80 was written behind a part in front of zeros
-pub pad_is : (w : ℕ) (out part : List ℕ) → length part < w → out ≡ filled w part → set out (length part) 0x80 ≡ padded w part
-pad_is w out part h e =
+pub pad_filled : (w : ℕ) (out part : List ℕ) → length part < w → out ≡ filled w part → set out (length part) 0x80 ≡ padded w part
+pad_filled w out part h e =
     let m = w - length part - 1 in
     rw (e, filled_as w (suc m) part (omega arith)) (set_at part 0 (replicate m 0) 0x80 (length part) refl ∙ sym (padded_as w m part (omega arith)))
 
 -- a full part was written over all of it
-pub pad_none : (w : ℕ) (out part : List ℕ) → length part ≡ w → out ≡ filled w part → out ≡ padded w part
-pad_none w out part h e = e ∙ filled_full w part h ∙ sym (padded_full w part h)
+pub pad_full : (w : ℕ) (out part : List ℕ) → length part ≡ w → out ≡ filled w part → out ≡ padded w part
+pad_full w out part h e = e ∙ filled_full w part h ∙ sym (padded_full w part h)
+
+-- the same of a part that was written over the front of zeros
+pub pad_is : (w : ℕ) (old part front : List ℕ) → length part < w → old ≡ zeros w → front ≡ part → set (front ++ post_of 0 (length part - 0) old) (length part) 0x80 ≡ padded w part
+pad_is w old part front h z f = pad_filled w _ part h (fill_is w old part front (omega arith) z f)
+
+pub pad_none : (w : ℕ) (old part front : List ℕ) → length part ≡ w → old ≡ zeros w → front ≡ part → front ++ post_of 0 (length part - 0) old ≡ padded w part
+pad_none w old part front h z f = pad_full w _ part h (fill_is w old part front (omega arith) z f)
 
 -- both halves of a padded block that ends in the left one
 module _ (n : ℕ) (part : List ℕ) (h : length part < n) where

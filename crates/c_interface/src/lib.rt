@@ -1,4 +1,4 @@
-// Functions for callers in C, built by `rt staticlib c_interface`. A slice passes as a pointer and
+// Functions for callers in C, built by `rt lib` in this crate. A slice passes as a pointer and
 // a length; the pointer must be good for that length, and the output must overlap no input.
 // Each answers 0, or the number of the cause for which it refused.
 // Read first: specs/Codes.antt, and `Keyed` in the crate compression.

@@ -1,4 +1,4 @@
--- FIPS 180-4, sections 4.2.2 and 4.2.3: the round constants K(t). Their rule is in specs/CubeRoots.antt.
+-- FIPS 180-4, sections 4.2.2 and 4.2.3: the round constants K(t). Their rule is in specs/CubeRoots.antt of keyed_sha2_examples.
 use Rattle.std.specs.Prelude.{ℕ, List, [], ◌∷◌}
 
 unfoldable pub constants256 : List ℕ
