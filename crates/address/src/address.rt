@@ -1,7 +1,5 @@
 // The address layer over any scheme.
-ghost use Rattle.std.specs.Prelude.{◌≡◌, ℕ, ◌+◌, ◌-◌, ◌<◌, ◌≤◌, true, ◌++◌, length, take, IfErr, MatchResult};
-ghost use Rattle.base.specs.Refusals.{refusal};
-ghost use Rattle.base.specs.declared.refusal.Cause.TheVariants.{AdTooLong};
+ghost use Rattle.std.specs.Prelude.{◌≡◌, ◌+◌, ◌≤◌, true, ◌++◌, length, take, IfErr, MatchResult};
 ghost use Rattle.scheme.specs.Answers.{Sealed, Opened};
 ghost use Rattle.address.specs.Address.{Joined, TooLong, addressed, address_layers, means, names};
 ghost use Rattle.address.specs.Addresses.{addressed_lawful};
@@ -111,11 +109,11 @@ impl<S: Scheme> Addressed<S> {
 }
 
 impl<S: Scheme> Scheme for Addressed<S> {
-    ghost meaning = { λ s. means S.Scheme.meaning s };
+    ghost meaning = { λ s. means S.meaning s };
 
-    ghost layers = { λ s. names S.Scheme.layers s };
+    ghost layers = { λ s. names S.layers s };
 
-    ghost lawful = { λ s. addressed_lawful s.address (S.Scheme.meaning s.below) (S.Scheme.lawful s.below) };
+    ghost lawful = { λ s. addressed_lawful s.address (S.meaning s.below) (S.lawful s.below) };
 
     fn limits(&self) -> Limits {
         let below = self.below.limits();

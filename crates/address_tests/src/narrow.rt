@@ -36,11 +36,11 @@ fn too_long(n: usize) -> Refusal
 }
 
 impl<S: Scheme> Scheme for Narrow<S> {
-    ghost meaning = { λ s. narrowed (S.Scheme.meaning s.below) };
+    ghost meaning = { λ s. narrowed (S.meaning s.below) };
 
-    ghost layers = { λ s. narrow_layers (S.Scheme.layers s.below) };
+    ghost layers = { λ s. narrow_layers (S.layers s.below) };
 
-    ghost lawful = { λ s. narrow_lawful (S.Scheme.meaning s.below) (S.Scheme.lawful s.below) };
+    ghost lawful = { λ s. narrow_lawful (S.meaning s.below) (S.lawful s.below) };
 
     fn limits(&self) -> Limits {
         let below = self.below.limits();

@@ -1,5 +1,5 @@
 // Bytes in place.
-ghost use Rattle.std.specs.Prelude.{◌≡◌, ℕ, ◌+◌, ◌-◌, ◌<◌, ◌≤◌, true, false, List, ◌++◌, length, drop, Decides};
+ghost use Rattle.std.specs.Prelude.{◌≡◌, ◌≤◌, ◌++◌, length, drop, Decides};
 ghost use Rattle.base.specs.Bytes.{xor, zeros, digits, filled, padded, shifted};
 
 // Zeroes all of `text`.

@@ -14,13 +14,13 @@ pub trait Keyed: Compression {
 
     // Holds the built-in key: 32 zero bytes.
     fn new() -> Self
-        ensures { Self.Compression.value result ≡ under (zeros 32) };
+        ensures { Self.value result ≡ under (zeros 32) };
 
     // Takes a key of 10 bytes to the width, and then means what it means under that key. Refuses
     // any other, and keeps the old key.
     fn set_key(&mut self, key: &[u8]) -> Result<(), Refusal>
-        ensures answer { result ≡ key_answer Self.Compression.width (length key.now) }
-        ensures meaning { Self.Compression.value self.new ≡ (if is_ok result then under key.now else Self.Compression.value self.old) };
+        ensures answer { result ≡ key_answer Self.width (length key.now) }
+        ensures meaning { Self.value self.new ≡ (if is_ok result then under key.now else Self.value self.old) };
 }
 
 // The answer to a key of `len` bytes, for a function of this width.

@@ -1,6 +1,5 @@
 // The schedule and the rounds.
-ghost use Rattle.std.specs.Prelude.{◌≡◌, ℕ, ◌+◌, ◌-◌, ◌<◌, ◌≤◌, map, length, take};
-ghost use Rattle.fips180.specs.Words.{Sizes};
+ghost use Rattle.std.specs.Prelude.{◌≡◌, ◌≤◌, map, length, take};
 ghost use Rattle.fips180.specs.Compression.{word_at, round as turned, added, worked};
 ghost use Rattle.fips180.specs.Values.{values};
 
@@ -64,7 +63,7 @@ impl<W: Word> State<W> {
 // A round and the word that is due sixteen rounds later are worked out in one turn: neither waits
 // for the other, so that a processor does both at once.
 pub(crate) fn run<W: Word>(start: State<W>, w: &mut [W]) -> State<W>
-    requires { length w.old ≡ W.Word.sizes.rounds }
+    requires { length w.old ≡ W.sizes.rounds }
     ensures { values W.val result ≡ added W.sizes (worked W.sizes (values W.val start) (take 16 (map W.val w.old))) (values W.val start) }
 {
     let mut s = start;

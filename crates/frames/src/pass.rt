@@ -1,5 +1,5 @@
 // The pass between a page and its ciphertext.
-ghost use Rattle.std.specs.Prelude.{◌≡◌, ℕ, ◌+◌, ◌-◌, ◌<◌, ◌≤◌, length};
+ghost use Rattle.std.specs.Prelude.{◌≡◌, ◌+◌, ◌<◌, ◌≤◌, length};
 ghost use Rattle.base.specs.Text.{text};
 ghost use Rattle.frames.specs.Offsets.{Wide};
 ghost use Rattle.frames.specs.Directions.{page_of};

@@ -1,6 +1,6 @@
 // The pass between a page and its ciphertext by a rule: the next chaining value may be made from
 // the page, or from two blocks that stay.
-ghost use Rattle.std.specs.Prelude.{◌≡◌, ℕ, ◌+◌, ◌-◌, ◌<◌, ◌≤◌, List, length};
+ghost use Rattle.std.specs.Prelude.{◌≡◌, ℕ, ◌+◌, ◌<◌, ◌≤◌, List, length};
 ghost use Rattle.base.specs.Bytes.{cut};
 ghost use Rattle.base.specs.Text.{text};
 ghost use Rattle.frames.specs.Chain.{chain};
@@ -81,7 +81,7 @@ fn turn_by<F: Compression>(
 }
 
 // All blocks but the last, from `src` to `dst`.
-pub fn pass_front_by<F: Compression>(
+fn pass_front_by<F: Compression>(
     f: &mut F,
     table: &OffsetTable,
     rule: Rule,

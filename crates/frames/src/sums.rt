@@ -1,5 +1,5 @@
 // Sums over blocks of two halves.
-ghost use Rattle.std.specs.Prelude.{◌≡◌, ℕ, ◌+◌, ◌-◌, ◌*◌, ◌<◌, ◌≤◌, length};
+ghost use Rattle.std.specs.Prelude.{◌≡◌, ◌+◌, ◌*◌, ◌<◌, ◌≤◌, length};
 ghost use Rattle.base.specs.Bytes.{padded};
 ghost use Rattle.base.specs.Text.{text};
 ghost use Rattle.frames.specs.Chain.{hashed};

@@ -1,5 +1,4 @@
-ghost use Rattle.std.specs.Prelude.{List, ℕ};
-ghost use Rattle.fips180.specs.Words.{sha256 as sizes, sha256};
+ghost use Rattle.fips180.specs.Words.{sha256};
 ghost use Rattle.fips180.specs.Compression.{half_fixed};
 ghost use Rattle.keyed_sha2.specs.Keys.{keyed};
 ghost use Rattle.fips180.proofs.Compressed.{length-half_fixed, Bytes-half_fixed};
@@ -26,7 +25,7 @@ impl Compression for Sha256 {
 
     ghost feedback = { 0x0425 };
 
-    ghost value = { λ f. half_fixed sizes f.key };
+    ghost value = { λ f. half_fixed sha256 f.key };
 
     ghost wide = { Prim.search rules };
 
@@ -53,7 +52,7 @@ impl Compression for Sha256 {
 }
 
 impl Keyed for Sha256 {
-    ghost under = { keyed sizes };
+    ghost under = { keyed sha256 };
 
     fn new() -> Sha256 {
         Sha256 { key: [0; 32] }

@@ -1,5 +1,4 @@
-ghost use Rattle.std.specs.Prelude.{List, ℕ};
-ghost use Rattle.fips180.specs.Words.{sha512 as sizes, sha512};
+ghost use Rattle.fips180.specs.Words.{sha512};
 ghost use Rattle.fips180.specs.Compression.{half_fixed};
 ghost use Rattle.keyed_sha2.specs.Keys.{keyed};
 ghost use Rattle.fips180.proofs.Compressed.{length-half_fixed, Bytes-half_fixed};
@@ -26,7 +25,7 @@ impl Compression for Sha512 {
 
     ghost feedback = { 0x0125 };
 
-    ghost value = { λ f. half_fixed sizes f.key };
+    ghost value = { λ f. half_fixed sha512 f.key };
 
     ghost wide = { Prim.search rules };
 
@@ -53,7 +52,7 @@ impl Compression for Sha512 {
 }
 
 impl Keyed for Sha512 {
-    ghost under = { keyed sizes };
+    ghost under = { keyed sha512 };
 
     fn new() -> Sha512 {
         Sha512 { key: [0; 64] }

@@ -2,7 +2,6 @@
 // through the public calls. And the rule of the round constants, for both tables.
 #![tactic(auto)]
 
-ghost use Rattle.std.specs.Prelude.{◌≡◌};
 ghost use Rattle.fips180.specs.Words.{sha256, sha512};
 ghost use Rattle.keyed_sha2_examples.specs.CubeRoots.{FollowsRule};
 ghost use Rattle.keyed_sha2_examples.specs.Digests.{Examples};

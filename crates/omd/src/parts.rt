@@ -1,7 +1,7 @@
 // The parts of OMD.
-ghost use Rattle.std.specs.Prelude.{◌≡◌, ℕ, ◌+◌, ◌-◌, ◌*◌, ◌<◌, ◌≤◌, List, length, if◌then◌else◌};
+ghost use Rattle.std.specs.Prelude.{◌≡◌, ℕ, ◌+◌, ◌*◌, ◌<◌, ◌≤◌, List, length, if◌then◌else◌};
 ghost use Rattle.std.specs.Int.Count.{count_trailing_zeros};
-ghost use Rattle.base.specs.Bytes.{xor, zeros, digits, double};
+ghost use Rattle.base.specs.Bytes.{xor, digits, double};
 ghost use Rattle.base.specs.Text.{text};
 ghost use Rattle.frames.specs.Directions.{page_of, cipher_of};
 ghost use Rattle.frames.specs.Offsets.{Entries, Filled, Wide, delta, star};

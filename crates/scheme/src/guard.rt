@@ -1,5 +1,5 @@
 // The guard over an opened page.
-ghost use Rattle.std.specs.Prelude.{◌≡◌, ℕ, ◌+◌, ◌-◌, ◌<◌, ◌≤◌, List, length, if◌then◌else◌, MatchResult, ◌≢◌};
+ghost use Rattle.std.specs.Prelude.{◌≡◌, ℕ, ◌+◌, ◌≤◌, List, length, if◌then◌else◌, MatchResult, ◌≢◌};
 ghost use Rattle.base.specs.Bytes.{zeros};
 ghost use Rattle.base.specs.Refusals.{refusal};
 ghost use Rattle.base.specs.declared.refusal.Cause.TheVariants.{NotGenuine};

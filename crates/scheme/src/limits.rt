@@ -1,5 +1,5 @@
 // What a scheme takes, in which order it refuses, and where the tag stands.
-ghost use Rattle.std.specs.Prelude.{◌≡◌, ℕ, ◌+◌, ◌-◌, ◌<◌, ◌≤◌, length, IfErr, Some, Option, MatchOption, MatchResult, OnOk};
+ghost use Rattle.std.specs.Prelude.{◌≡◌, ◌<◌, ◌≤◌, length, IfErr, Some, Option, MatchOption, MatchResult, OnOk};
 ghost use Rattle.base.specs.Refusals.{refusal};
 ghost use Rattle.scheme.specs.Meaning.{mode_limits, tag_part};
 ghost use Rattle.scheme.specs.Answers.{Fault, InputFits, MayOpen, MaySeal, input_fault, open_fault, said, seal_fault, tag_answer};

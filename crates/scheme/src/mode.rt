@@ -1,5 +1,5 @@
 // What a mode gives, and how any mode seals and opens under the limits.
-ghost use Rattle.std.specs.Prelude.{◌≡◌, ℕ, ◌+◌, ◌-◌, ◌<◌, ◌≤◌, List, length, IfErr};
+ghost use Rattle.std.specs.Prelude.{◌≡◌, ℕ, ◌+◌, ◌≤◌, List, length, IfErr};
 ghost use Rattle.base.specs.Text.{text};
 ghost use Rattle.scheme.specs.Meaning.{mode};
 ghost use Rattle.scheme.specs.Answers.{Sealed, Opened};

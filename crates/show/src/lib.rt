@@ -1,7 +1,7 @@
 // How programs show bytes.
 #![tactic(auto)]
 
-ghost use Rattle.std.specs.Prelude.{◌≡◌, ℕ, ◌<◌, map, IfOk, string_bytes};
+ghost use Rattle.std.specs.Prelude.{◌≡◌, ◌<◌, map, IfOk, string_bytes};
 ghost use Rattle.show.specs.Shown.{cell, digit, hex};
 
 use std::alloc::{AllocError, Global};

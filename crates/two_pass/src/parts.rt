@@ -1,5 +1,5 @@
 // The parts of serial and counter.
-ghost use Rattle.std.specs.Prelude.{◌≡◌, ℕ, ◌+◌, ◌-◌, ◌*◌, ◌<◌, ◌≤◌, List, length, if◌then◌else◌, nat_lt};
+ghost use Rattle.std.specs.Prelude.{◌≡◌, ℕ, ◌*◌, ◌≤◌, List, length, if◌then◌else◌, nat_lt};
 ghost use Rattle.base.specs.Bytes.{digits, xor};
 ghost use Rattle.base.specs.Text.{text};
 ghost use Rattle.frames.specs.Offsets.{Entries, Filled, Wide, delta, star};

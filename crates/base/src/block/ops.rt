@@ -1,5 +1,5 @@
 // What blocks are made from, and made into.
-ghost use Rattle.std.specs.Prelude.{◌≡◌, ℕ, ◌+◌, ◌-◌, ◌*◌, ◌<◌, ◌≤◌, List, ◌++◌, length, take, drop, Decides, nat_le, slice_index};
+ghost use Rattle.std.specs.Prelude.{◌≡◌, ◌*◌, ◌≤◌, length, take, drop, Decides, nat_le, slice_index};
 ghost use Rattle.base.specs.Bytes.{Xored, zeros, padded, filled, digits, shifted, double};
 ghost use Rattle.base.specs.Text.{text};
 

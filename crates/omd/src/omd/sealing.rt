@@ -1,5 +1,5 @@
 // Set-up of OMD, and OMD as a mode and a scheme.
-ghost use Rattle.std.specs.Prelude.{◌≡◌, ℕ, ◌+◌, ◌-◌, ◌*◌, ◌<◌, ◌≤◌, min, List, length, is_ok, if◌then◌else◌, ◌==◌};
+ghost use Rattle.std.specs.Prelude.{◌≡◌, ◌≤◌, length, is_ok, if◌then◌else◌, ◌==◌};
 ghost use Rattle.base.specs.Bytes.{xor};
 ghost use Rattle.base.specs.Text.{text};
 ghost use Rattle.frames.specs.Directions.{page_of, cipher_of};
@@ -7,7 +7,7 @@ ghost use Rattle.frames.specs.Offsets.{Filled, star};
 ghost use Rattle.scheme.specs.declared.limits.End.TheVariants.{Back};
 ghost use Rattle.omd.specs.Omd.{ad_tag, cipher, page_tag, sealed};
 ghost use Rattle.omd.specs.Means.{means, omd, tag_answer, tag_length};
-ghost use Rattle.std.proofs.Common.{rules, arith};
+ghost use Rattle.std.proofs.Common.{arith};
 ghost use Rattle.omd.specs.Laws.{sealed_same, sealed_length};
 
 use crate::omd::Omd;
@@ -83,13 +83,17 @@ impl<F: Compression> Omd<F> {
 }
 
 impl<F: Compression> Mode for Omd<F> {
-    ghost tag = { λ s. tag_length F.Compression.width s };
+    ghost tag = { λ s. tag_length F.width s };
 
     ghost end = { Back };
 
-    ghost E = { λ s. sealed F.Compression.width F.Compression.feedback (F.Compression.value s.f) (tag_length F.Compression.width s) };
+    ghost E = { λ s. sealed F.width F.feedback (F.value s.f) (tag_length F.width s) };
 
-    ghost tags = { first_of (Prim.search rules, Prim.grind (arith, Self.row.coded.inj)) };
+    ghost tags = { λ s.
+        let least = F.wide.0 in
+        let most = F.wide.1 in
+        let low = s.low in
+        (omega arith, omega arith) };
 
     fn tag_len(&self) -> usize {
         self.tag_len.min(F::block_len())
@@ -113,23 +117,22 @@ impl<F: Compression> Mode for Omd<F> {
 }
 
 impl<F: Compression> Scheme for Omd<F> {
-    ghost meaning = { λ s. means F.Compression.width F.Compression.feedback F.Compression.value s };
+    ghost meaning = { λ s. means F.width F.feedback F.value s };
 
     ghost layers = { λ _ _ layer. (layer == 1) };
 
     ghost lawful = { λ s.
         let m = F.Compression in
-        let q = F.Compression in
-        let z = q.wide.0 in
-        let y = q.wide.1 in
+        let least = m.wide.0 in
+        let most = m.wide.1 in
         let low = s.low in
         record {
           tag_low = omega arith;
           tag_high = omega arith;
           ad_high = omega arith;
           page_high = omega arith;
-          longer = λ n a p t h. sealed_length m.width m.feedback (omega arith) (m.value s.f) (q.sized s.f) (tag_length m.width s) (omega arith) n a p;
-          one_page = λ n a p q' t h i e. sealed_same m.width m.feedback (omega arith) (m.value s.f) (q.sized s.f) (tag_length m.width s) (omega arith) n a p q' e;
+          longer = λ n a p t h. sealed_length m.width m.feedback (omega arith) (m.value s.f) (m.sized s.f) (tag_length m.width s) (omega arith) n a p;
+          one_page = λ n a p q t h i e. sealed_same m.width m.feedback (omega arith) (m.value s.f) (m.sized s.f) (tag_length m.width s) (omega arith) n a p q e;
         } };
 
     fn limits(&self) -> Limits {

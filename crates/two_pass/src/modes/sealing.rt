@@ -1,5 +1,5 @@
 // Set-up of serial and counter, and both as modes and schemes.
-ghost use Rattle.std.specs.Prelude.{◌≡◌, ℕ, ◌+◌, ◌-◌, ◌*◌, ◌<◌, ◌≤◌, min, List, length, is_ok, if◌then◌else◌, ◌==◌};
+ghost use Rattle.std.specs.Prelude.{◌≡◌, ◌≤◌, length, is_ok, if◌then◌else◌, ◌==◌};
 ghost use Rattle.base.specs.Text.{text};
 ghost use Rattle.frames.specs.Directions.{page_of, cipher_of};
 ghost use Rattle.frames.specs.Offsets.{Filled, star};
@@ -7,7 +7,7 @@ ghost use Rattle.scheme.specs.Answers.{tag_answer};
 ghost use Rattle.scheme.specs.declared.limits.End.TheVariants.{Front};
 ghost use Rattle.two_pass.specs.Means.{means, tag_length, two_pass};
 ghost use Rattle.two_pass.specs.TwoPass.{ad_sum, cipher, nonce_offset, sealed, tag_block};
-ghost use Rattle.std.proofs.Common.{rules, arith};
+ghost use Rattle.std.proofs.Common.{arith};
 ghost use Rattle.two_pass.specs.Laws.{body_long, body_same, length-nonce};
 
 use crate::keystream::Chaining;
@@ -100,13 +100,17 @@ impl<F: Compression, K: Chaining> TwoPass<F, K> {
 }
 
 impl<F: Compression, K: Chaining> Mode for TwoPass<F, K> {
-    ghost tag = { λ s. tag_length F.Compression.width s };
+    ghost tag = { λ s. tag_length F.width s };
 
     ghost end = { Front };
 
-    ghost E = { λ s. sealed F.Compression.width F.Compression.feedback (F.Compression.value s.f) K.Chaining.keystream (tag_length F.Compression.width s) };
+    ghost E = { λ s. sealed F.width F.feedback (F.value s.f) K.keystream (tag_length F.width s) };
 
-    ghost tags = { first_of (Prim.search rules, Prim.grind (arith, Self.row.coded.inj)) };
+    ghost tags = { λ s.
+        let least = F.wide.0 in
+        let most = F.wide.1 in
+        let low = s.low in
+        (omega arith, omega arith) };
 
     fn tag_len(&self) -> usize {
         self.tag_len.min(F::block_len())
@@ -137,26 +141,25 @@ impl<F: Compression, K: Chaining> Mode for TwoPass<F, K> {
 }
 
 impl<F: Compression, K: Chaining> Scheme for TwoPass<F, K> {
-    ghost meaning = { λ s. means F.Compression.width F.Compression.feedback F.Compression.value K.Chaining.keystream s };
+    ghost meaning = { λ s. means F.width F.feedback F.value K.keystream s };
 
     ghost layers = { λ _ _ layer. (layer == 1) };
 
     ghost lawful = { λ s.
         let m = F.Compression in
-        let q = F.Compression in
-        let z = q.wide.0 in
-        let y = q.wide.1 in
+        let least = m.wide.0 in
+        let most = m.wide.1 in
         let low = s.low in
         let w = m.width in
         let V = m.value s.f in
-        let k = K.Chaining.keystream in
+        let k = K.keystream in
         record {
           tag_low = omega arith;
           tag_high = omega arith;
           ad_high = omega arith;
           page_high = omega arith;
-          longer = λ n a p t h. body_long w m.feedback (omega arith) V (q.sized s.f) (nonce_offset w m.feedback V n) (length-nonce w m.feedback (omega arith) V (q.sized s.f) n) k (tag_length w s) (omega arith) a p;
-          one_page = λ n a p q' t h i e. body_same w m.feedback (omega arith) V (q.sized s.f) (nonce_offset w m.feedback V n) (length-nonce w m.feedback (omega arith) V (q.sized s.f) n) k (tag_length w s) (omega arith) a p q' e;
+          longer = λ n a p t h. body_long w m.feedback (omega arith) V (m.sized s.f) (nonce_offset w m.feedback V n) (length-nonce w m.feedback (omega arith) V (m.sized s.f) n) k (tag_length w s) (omega arith) a p;
+          one_page = λ n a p q t h i e. body_same w m.feedback (omega arith) V (m.sized s.f) (nonce_offset w m.feedback V n) (length-nonce w m.feedback (omega arith) V (m.sized s.f) n) k (tag_length w s) (omega arith) a p q e;
         } };
 
     fn limits(&self) -> Limits {
