@@ -6,4 +6,5 @@
 
 pub mod compression;
 pub mod keyed;
+pub mod part;
 pub mod trial;

@@ -1,10 +1,7 @@
 pub mod Counts
-pub mod Fills
 pub mod Turns
 pub mod Goings
-pub mod GoingsBy
-pub mod Summings
 pub mod Pages
-pub mod PagesBy
+pub mod Summings
 pub mod Tallies
 pub mod Laws

@@ -1,9 +1,9 @@
 -- L*, the offsets D(i), and what the table of offsets holds.
-use Rattle.std.specs.Prelude.{◌≡◌, ℕ, zero, suc, ◌<◌, List, length, slice_index_or}
+use Rattle.std.specs.Prelude.{◌≡◌, ℕ, zero, suc, ◌<◌, List, slice_index_or}
 use Rattle.std.specs.Int.Count.{count_trailing_zeros}
-use Rattle.base.specs.declared.block.Block.{Block}
 use Rattle.base.specs.Bytes.{xor, zeros, doubled}
-use Rattle.base.specs.Text.{text}
+use Rattle.compression.specs.Parts.{bytes_of}
+use Rattle.compression.specs.declared.part.Part.{Part}
 use Rattle.frames.specs.declared.offsets.OffsetTable.{OffsetTable}
 
 -- L*
@@ -16,20 +16,14 @@ delta L d zero = d
 delta L d (suc i) = xor (delta L d i) (L (count_trailing_zeros 64 (suc i)))
 
 -- the entries below n hold the doublings of the first one
-abbrev pub Doublings : ℕ → List ℕ → ℕ → List Block → Type 0
-Doublings fb first n entries = (k : ℕ) → k < n → (b : Block) → text (slice_index_or entries k b) ≡ doubled fb k first
+abbrev pub Doublings : {F : Type 0} {g : _} → ℕ → List ℕ → ℕ → List (Part F g) → Type 0
+Doublings {F = F} {g = g} fb first n entries = (k : ℕ) → k < n → (b : Part F g) → bytes_of (slice_index_or entries k b) ≡ doubled fb k first
 
 -- the table's entries hold L
-pub record Entries (table : OffsetTable) (L : ℕ → List ℕ) : Type 0 where
-  pub are : (k : ℕ) → k < 8 → (b : Block) → text (slice_index_or table.entries k b) ≡ L k
-
--- each entry has w bytes
-pub record Wide (w : ℕ) (table : OffsetTable) : Type 0 where
-  pub long : (k : ℕ) → k < 8 → (b : Block) → length (text (slice_index_or table.entries k b)) ≡ w
+pub record Entries {F : Type 0} {g : _} (table : OffsetTable F g) (L : ℕ → List ℕ) : Type 0 where
+  pub are : (k : ℕ) → k < 8 → (b : Part F g) → bytes_of (slice_index_or table.entries k b) ≡ L k
 
 -- the table holds L*, and entries whose first is L* doubled `start` times
-pub record Filled (w fb start : ℕ) (l : List ℕ) (table : OffsetTable) : Type 0 where
-  pub star_is : text table.star ≡ l
-  pub star_long : length (text table.star) ≡ w
+pub record Filled {F : Type 0} {g : _} (w fb start : ℕ) (l : List ℕ) (table : OffsetTable F g) : Type 0 where
+  pub star_is : bytes_of table.star ≡ l
   pub entries_are : Entries table (λ k. doubled fb k (doubled fb start l))
-  pub wide : Wide w table

@@ -1,107 +1,111 @@
 // The pass between a page and its ciphertext.
-ghost use Rattle.std.specs.Prelude.{◌≡◌, ◌+◌, ◌<◌, ◌≤◌, length};
-ghost use Rattle.base.specs.Text.{text};
-ghost use Rattle.frames.specs.Offsets.{Wide};
-ghost use Rattle.frames.specs.Directions.{page_of};
-ghost use Rattle.frames.specs.Progress.{Going, PassOf, Turned};
+ghost use Rattle.std.specs.Prelude.{◌≡◌, ℕ, ◌+◌, ◌<◌, ◌≤◌, List, length};
+ghost use Rattle.base.specs.Bytes.{cut};
+ghost use Rattle.compression.specs.Parts.{bytes_of};
+ghost use Rattle.frames.specs.Chain.{chain};
+ghost use Rattle.frames.specs.Directions.{cipher_of, page_of};
+ghost use Rattle.frames.specs.Feeds.{next_by};
+ghost use Rattle.frames.specs.Offsets.{Entries, delta};
+ghost use Rattle.frames.specs.Progress.{Going, Turned};
 
 use crate::offsets::OffsetTable;
-use base::block::Block;
-use compression::compression::{Compression, step};
+use crate::rule::Rule;
+use compression::compression::Compression;
+use compression::part::Part;
+use std::alloc::AllocError;
 
-// From the page to its ciphertext, or back.
-#[derive(Clone, Copy)]
-pub enum Direction {
-    Seal,
-    Open,
-}
-
-// How far a pass over blocks has come: the next block begins at `at`; `offset` is D(index), and
-// `value` is the chaining value H(index), or the sum so far.
-#[derive(Clone, Copy)]
-pub struct Pass {
-    pub at: usize,
+// How far a pass over blocks has come: `offset` is D(index), and `value` is the chaining value
+// H(index), or the sum so far.
+pub struct Pass<F: Compression> {
     pub index: usize,
-    pub offset: Block,
-    pub value: Block,
+    pub offset: Part<F>,
+    pub value: Part<F>,
 }
 
-impl Direction {
-    // The page's block, where `source` is read and `target` is written.
-    pub fn page(self, source: Block, target: Block) -> Block
-        ensures block { text result ≡ page_of self (text source) (text target) }
-        ensures long { length (text source) ≡ length (text target) → length (text result) ≡ length (text source) }
-    {
-        match self {
-            Direction::Seal => source,
-            Direction::Open => target,
-        }
+impl<F: Compression> Copy for Pass<F> {}
+
+impl<F: Compression> Clone for Pass<F> {
+    fn clone(&self) -> Result<Pass<F>, AllocError> {
+        Ok(*self)
     }
 }
 
 // One full block from `src` to `dst`.
 fn turn<F: Compression>(
     f: &mut F,
-    table: &OffsetTable,
-    direction: Direction,
-    pass: Pass,
+    table: &OffsetTable<F>,
+    rule: Rule<F>,
+    pass: Pass<F>,
     src: &[u8],
     dst: &mut [u8],
-) -> Pass
-    requires table { Wide F.width table.now }
-    requires pass { PassOf F.width pass }
+) -> Pass<F>
     requires index { pass.index < 255 }
-    requires at { pass.at ≤ 4096 }
     requires src { length src.now ≡ F.width }
     requires dst { length dst.old ≡ F.width }
     ensures kept { F.value f.new ≡ F.value f.old }
-    ensures turned { Turned F.width (F.value f.old) table.now direction pass src.now dst.new result }
+    ensures turned { Turned (F.value f.old) table.now rule pass src.now dst.new result }
 {
-    let source = Block::of(src);
-    let target = source ^ pass.value;
-    dst.copy_from_slice(target.as_slice());
-    let page = direction.page(source, target);
+    pass.value.xor_to(src, dst);
+    let page = Part::of(rule.direction.page(src, dst));
     let index = pass.index + 1;
     let offset = table.next(pass.offset, index);
-    let value = step(f, pass.value ^ offset, page);
+    let value = rule.feed.next_value(f, offset, pass.value, page);
     Pass {
-        at: pass.at + src.len(),
         index,
         offset,
         value,
     }
 }
 
-// All blocks but the last, from `src` to `dst`.
+// All blocks but the last, from `src` to `dst`. The answer stands at the last block, and says where
+// it begins.
 pub fn pass_front<F: Compression>(
     f: &mut F,
-    table: &OffsetTable,
-    direction: Direction,
-    start: Pass,
+    table: &OffsetTable<F>,
+    rule: Rule<F>,
+    start: Pass<F>,
     src: &[u8],
     dst: &mut [u8],
-) -> Pass
-    requires table { Wide F.width table.now }
-    requires start { PassOf F.width start × (start.at ≡ 0) × (start.index ≡ 1) }
+) -> (Pass<F>, usize)
+    requires start { start.index ≡ 1 }
     requires src { length src.now ≤ 4096 }
     requires dst { length dst.old ≡ length src.now }
     ensures kept { F.value f.new ≡ F.value f.old }
-    ensures left { length src.now ≤ result.at + F.width }
-    ensures going { Going F.width (F.value f.old) table.now direction start src.now dst.new result }
+    ensures left { length src.now ≤ result.1 + F.width }
+    ensures going { Going F.width (F.value f.old) table.now rule start src.now dst.new result.0 result.1 }
 {
     let w = F::block_len();
     let n = src.len();
     let mut pass = start;
-    while n - pass.at > w {
-        let at = pass.at;
-        pass = turn(
-            f,
-            table,
-            direction,
-            pass,
-            &src[at..at + w],
-            &mut dst[at..at + w],
-        );
+    let mut at = 0;
+    // Kept by index: of what is written through pieces of `dst` that the library hands out in a
+    // loop (`chunks_mut`, `split_at_mut`), nothing is known after the loop.
+    while n - at > w {
+        pass = turn(f, table, rule, pass, &src[at..at + w], &mut dst[at..at + w]);
+        at += w;
     }
-    pass
+    (pass, at)
+}
+
+// All blocks from `src` to `dst`.
+pub fn pass_all<F: Compression>(
+    f: &mut F,
+    table: &OffsetTable<F>,
+    rule: Rule<F>,
+    start: Pass<F>,
+    src: &[u8],
+    dst: &mut [u8],
+)
+    requires start { start.index ≡ 1 }
+    requires src { length src.now ≤ 4096 }
+    requires dst { length dst.old ≡ length src.now }
+    ensures kept { F.value f.new ≡ F.value f.old }
+    ensures cipher { (L : ℕ → List ℕ) (d : List ℕ) → Entries table.now L → bytes_of start.offset ≡ delta L d 1 → cipher_of rule.direction src.now dst.new ≡ chain (next_by (F.value f.old) rule.feed (delta L d)) 1 (bytes_of start.value) (cut F.width (page_of rule.direction src.now dst.new)) }
+{
+    let n = src.len();
+    if n == 0 {
+        return;
+    }
+    let (pass, at) = pass_front(f, table, rule, start, src, dst);
+    pass.value.xor_to(&src[at..n], &mut dst[at..n]);
 }

@@ -2,39 +2,36 @@
 ghost use Rattle.std.specs.Prelude.{◌≡◌, ℕ, ◌+◌, ◌*◌, ◌<◌, ◌≤◌, List, length, if◌then◌else◌};
 ghost use Rattle.std.specs.Int.Count.{count_trailing_zeros};
 ghost use Rattle.base.specs.Bytes.{xor, digits, double};
-ghost use Rattle.base.specs.Text.{text};
+ghost use Rattle.compression.specs.Parts.{bytes_of};
 ghost use Rattle.frames.specs.Directions.{page_of, cipher_of};
-ghost use Rattle.frames.specs.Offsets.{Entries, Filled, Wide, delta, star};
-ghost use Rattle.frames.specs.Progress.{PassOf};
+ghost use Rattle.frames.specs.Offsets.{Entries, Filled, delta, star};
 ghost use Rattle.omd.specs.Omd.{ad_tag, cipher_from, ending, entry, nonce_offset, tag_from};
 
-use base::block::Block;
-use compression::compression::{Compression, step};
+use compression::compression::Compression;
+use compression::part::Part;
 use frames::offsets::OffsetTable;
-use frames::pass::{Direction, Pass, pass_front};
+use frames::pass::{Pass, pass_front};
+use frames::rule::{Direction, Feed, Rule};
 use frames::sums::{hash, sum_front};
 
 // D(1) and H(1).
 pub(crate) fn begin<F: Compression>(
     f: &mut F,
-    table: &OffsetTable,
+    table: &OffsetTable<F>,
     tag_len: usize,
     nonce: &[u8],
-) -> Pass
-    requires table { Wide F.width table.now }
+) -> Pass<F>
     requires tag { tag_len ≤ 64 }
     requires nonce { length nonce.now ≤ 31 }
     ensures kept { F.value f.new ≡ F.value f.old }
-    ensures begun { PassOf F.width result × (result.at ≡ 0) × (result.index ≡ 1) }
-    ensures offset { (L : ℕ → List ℕ) → Entries table.now L → text result.offset ≡ delta L (nonce_offset F.width F.feedback (F.value f.old) nonce.now) 1 }
-    ensures value { text result.value ≡ F.value f.old (text result.offset) (digits F.width (8 * tag_len)) }
+    ensures begun { result.index ≡ 1 }
+    ensures offset { (L : ℕ → List ℕ) → Entries table.now L → bytes_of result.offset ≡ delta L (nonce_offset F.width F.feedback (F.value f.old) nonce.now) 1 }
+    ensures value { bytes_of result.value ≡ F.value f.old (bytes_of result.offset) (digits F.width (8 * tag_len)) }
 {
-    let w = F::block_len();
-    let d = step(f, Block::padded(nonce, w), Block::zeros(w));
+    let d = Part::compressed(f, Part::padded(nonce), Part::zeros());
     let offset = table.next(d, 1);
-    let value = step(f, offset, Block::number(8 * tag_len, w));
+    let value = Part::compressed(f, offset, Part::number(8 * tag_len));
     Pass {
-        at: 0,
         index: 1,
         offset,
         value,
@@ -42,77 +39,67 @@ pub(crate) fn begin<F: Compression>(
 }
 
 // 3·L* for a short last block, 2·L* for a full one.
-fn ending_offset(star: Block, feedback: u16, short: bool) -> Block
-    ensures block { text result ≡ (if short then xor (double feedback (text star)) (text star) else double feedback (text star)) }
-    ensures long { length (text result) ≡ length (text star) }
+fn ending_offset<F: Compression>(star: Part<F>, short: bool) -> Part<F>
+    ensures { bytes_of result ≡ (if short then xor (double F.feedback (bytes_of star)) (bytes_of star) else double F.feedback (bytes_of star)) }
 {
-    let two = star.double(feedback);
+    let two = star.double();
     if short { two ^ star } else { two }
 }
 
 // The last block from `src` to `dst`, and F of the page's last block.
 fn last_block<F: Compression>(
     f: &mut F,
-    star: Block,
+    star: Part<F>,
     direction: Direction,
-    pass: Pass,
+    pass: Pass<F>,
     src: &[u8],
     dst: &mut [u8],
-) -> Block
-    requires star { length (text star) ≡ F.width }
-    requires pass { PassOf F.width pass }
+) -> Part<F>
     requires src { length src.now ≤ F.width }
     requires dst { length dst.old ≡ length src.now }
     ensures kept { F.value f.new ≡ F.value f.old }
-    ensures dst { dst.new ≡ xor src.now (text pass.value) }
-    ensures tag { text result ≡ ending F.width F.feedback (F.value f.old) (text star) (text pass.offset) (text pass.value) (page_of direction src.now dst.new) }
-    ensures long { length (text result) ≡ F.width }
+    ensures dst { dst.new ≡ xor src.now (bytes_of pass.value) }
+    ensures tag { bytes_of result ≡ ending F.width F.feedback (F.value f.old) (bytes_of star) (bytes_of pass.offset) (bytes_of pass.value) (page_of direction src.now dst.new) }
 {
-    let w = F::block_len();
-    let source = Block::of(src);
-    let target = source ^ pass.value;
-    dst.copy_from_slice(target.as_slice());
-    let page = direction.page(source, target);
-    let ending = ending_offset(star, F::reduction(), src.len() < w);
-    step(
-        f,
-        pass.value ^ pass.offset ^ ending,
-        Block::padded(page.as_slice(), w),
-    )
+    pass.value.xor_to(src, dst);
+    let page = direction.page(src, dst);
+    let ending = ending_offset(star, src.len() < F::block_len());
+    Part::compressed(f, pass.value ^ pass.offset ^ ending, Part::padded(page))
 }
 
 // The page in `src` to its ciphertext in `dst`, or back; then the page's part of the tag.
 pub(crate) fn run_page<F: Compression>(
     f: &mut F,
-    table: &OffsetTable,
+    table: &OffsetTable<F>,
     direction: Direction,
-    start: Pass,
+    start: Pass<F>,
     src: &[u8],
     dst: &mut [u8],
-) -> Block
+) -> Part<F>
     requires table { Filled F.width F.feedback 2 (star F.width (F.value f.old)) table.now }
-    requires start { PassOf F.width start × (start.at ≡ 0) × (start.index ≡ 1) }
+    requires start { start.index ≡ 1 }
     requires src { length src.now ≤ 4096 }
     requires dst { length dst.old ≡ length src.now }
     ensures kept { F.value f.new ≡ F.value f.old }
-    ensures cipher { (d : List ℕ) → text start.offset ≡ delta (entry F.width F.feedback (F.value f.old)) d 1 → cipher_of direction src.now dst.new ≡ cipher_from F.width F.feedback (F.value f.old) d (text start.value) (page_of direction src.now dst.new) }
-    ensures tag { (d : List ℕ) → text start.offset ≡ delta (entry F.width F.feedback (F.value f.old)) d 1 → text result ≡ tag_from F.width F.feedback (F.value f.old) d (text start.value) (page_of direction src.now dst.new) }
-    ensures long { length (text result) ≡ F.width }
+    ensures cipher { (d : List ℕ) → bytes_of start.offset ≡ delta (entry F.width F.feedback (F.value f.old)) d 1 → cipher_of direction src.now dst.new ≡ cipher_from F.width F.feedback (F.value f.old) d (bytes_of start.value) (page_of direction src.now dst.new) }
+    ensures tag { (d : List ℕ) → bytes_of start.offset ≡ delta (entry F.width F.feedback (F.value f.old)) d 1 → bytes_of result ≡ tag_from F.width F.feedback (F.value f.old) d (bytes_of start.value) (page_of direction src.now dst.new) }
 {
     let n = src.len();
     if n == 0 {
         return start.value;
     }
-    let pass = pass_front(f, table, direction, start, src, dst);
-    let at = pass.at;
+    let rule = Rule {
+        direction,
+        feed: Feed::Page,
+    };
+    let (pass, at) = pass_front(f, table, rule, start, src, dst);
     last_block(f, table.star, direction, pass, &src[at..n], &mut dst[at..n])
 }
 
 // The offset of the last block of associated data.
-fn ad_end(table: &OffsetTable, short: bool, pass: Pass) -> Block
+fn ad_end<F: Compression>(table: &OffsetTable<F>, short: bool, pass: Pass<F>) -> Part<F>
     requires { pass.index < 255 }
-    ensures offset { (L : ℕ → List ℕ) → Entries table.now L → text result ≡ (if short then xor (text pass.offset) (text table.now.star) else xor (text pass.offset) (L (count_trailing_zeros 64 (pass.index + 1)))) }
-    ensures wide { (w : ℕ) → Wide w table.now → length (text pass.offset) ≡ w → length (text table.now.star) ≡ w → length (text result) ≡ w }
+    ensures { (L : ℕ → List ℕ) → Entries table.now L → bytes_of result ≡ (if short then xor (bytes_of pass.offset) (bytes_of table.now.star) else xor (bytes_of pass.offset) (L (count_trailing_zeros 64 (pass.index + 1)))) }
 {
     if short {
         pass.offset ^ table.star
@@ -122,27 +109,22 @@ fn ad_end(table: &OffsetTable, short: bool, pass: Pass) -> Block
 }
 
 // The associated data's part of the tag.
-pub(crate) fn sum_ad<F: Compression>(f: &mut F, table: &OffsetTable, ad: &[u8]) -> Block
+pub(crate) fn sum_ad<F: Compression>(f: &mut F, table: &OffsetTable<F>, ad: &[u8]) -> Part<F>
     requires table { Filled F.width F.feedback 2 (star F.width (F.value f.old)) table.now }
     requires ad { length ad.now ≤ 1024 }
     ensures kept { F.value f.new ≡ F.value f.old }
-    ensures sum { text result ≡ ad_tag F.width F.feedback (F.value f.old) ad.now }
-    ensures long { length (text result) ≡ F.width }
+    ensures sum { bytes_of result ≡ ad_tag F.width F.feedback (F.value f.old) ad.now }
 {
-    let w = F::block_len();
-    let zeros = Block::zeros(w);
-    let n = ad.len();
-    if n == 0 {
+    let zeros = Part::zeros();
+    if ad.is_empty() {
         return zeros;
     }
     let start = Pass {
-        at: 0,
         index: 0,
         offset: zeros,
         value: zeros,
     };
-    let pass = sum_front(f, table, start, ad);
-    let at = pass.at;
-    let offset = ad_end(table, n - at < 2 * w, pass);
-    pass.value ^ hash(f, offset, &ad[at..n])
+    let (pass, last) = sum_front(f, table, start, ad);
+    let offset = ad_end(table, last.len() < 2 * F::block_len(), pass);
+    pass.value ^ hash(f, offset, last)
 }

@@ -1,8 +1,10 @@
 use Rattle.std.proofs.Common.{◌≡◌, length}
 use Rattle.base.specs.Bytes.{doubled}
-use Rattle.base.specs.Text.{text}
+use Rattle.compression.specs.Parts.{bytes_of}
 use Rattle.frames.specs.Offsets.{Doublings}
 use Rattle.frames.proofs.offsets.doublings.Given as goal
 
-abbrev pub invariant-loop-i : goal.invariant-loop-i
-invariant-loop-i l = (length l.entries ≡ 8) × (text l.next ≡ doubled l.feedback l.i (text l.initial.next)) × Doublings l.feedback (text l.initial.next) l.i l.entries
+abbrev pub invariant-loop-entry : goal.invariant-loop-entry
+invariant-loop-entry g l =
+    let fb = g.F.Compression.feedback in
+    (length l.entry-items ≡ 8) × (bytes_of l.next ≡ doubled fb l.entry-index (bytes_of l.initial.next)) × Doublings fb (bytes_of l.initial.next) l.entry-index l.entry-items

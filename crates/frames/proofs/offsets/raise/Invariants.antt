@@ -1,7 +1,7 @@
-use Rattle.std.proofs.Common.{◌≡◌, length}
+use Rattle.std.proofs.Common.{◌≡◌}
 use Rattle.base.specs.Bytes.{doubled}
-use Rattle.base.specs.Text.{text}
+use Rattle.compression.specs.Parts.{bytes_of}
 use Rattle.frames.proofs.offsets.raise.Given as goal
 
-abbrev pub invariant-loop-i : goal.invariant-loop-i
-invariant-loop-i l = (length (text l.next) ≡ length (text l.initial.next)) × (text l.next ≡ doubled l.feedback l._i (text l.initial.next))
+abbrev pub invariant-loop : goal.invariant-loop
+invariant-loop g l = bytes_of l.next ≡ doubled g.F.Compression.feedback l.counter (bytes_of l.initial.next)

@@ -1,11 +1,11 @@
-use Rattle.std.proofs.Common.{◌≡◌, ◌-◌, length}
+use Rattle.std.proofs.Common.{◌≡◌, length}
 use Rattle.frames.specs.Progress.{Summing}
 use Rattle.frames.proofs.sums.sum_front.Given as goal
 
-abbrev pub invariant-loop-pass : goal.invariant-loop-pass
-invariant-loop-pass g l =
+abbrev pub invariant-loop-rest : goal.invariant-loop-rest
+invariant-loop-rest g l =
     let m = g.F.Compression in
-    (m.value l.f ≡ m.value l.initial.f) × Summing m.width (m.value l.initial.f) l.table l.initial.pass l.src l.pass
+    (m.value l.f ≡ m.value l.initial.f) × Summing m.width (m.value l.initial.f) l.table l.initial.pass l.src l.pass l.rest
 
-abbrev pub decreases-loop-pass : goal.decreases-loop-pass
-decreases-loop-pass g l = length l.src - l.pass.at
+abbrev pub decreases-loop-rest : goal.decreases-loop-rest
+decreases-loop-rest g l = length l.rest

@@ -1,24 +1,22 @@
-use Rattle.std.proofs.Common.{refl, ◌∙◌, arith}
-use Rattle.base.specs.Text.{text}
+use Rattle.std.proofs.Common.{◌<◌, length, sym, refl, ◌∙◌, arith, rules}
+use Rattle.std.proofs.lemmas.Bool.Decides.{Decides-eqb}
+use Rattle.compression.specs.Parts.{bytes_of}
 use Rattle.omd.proofs.Pages.{empty_ad, ad_summed}
 use Rattle.omd.proofs.parts.sum_ad.Goals as goal
 
-pub returns-then-n-eq0 : goal.returns-then-n-eq0
-returns-then-n-eq0 g c =
+pub returns-then-is_empty : goal.returns-then-is_empty
+returns-then-is_empty g c =
     let m = g.F.Compression in
-    let q = g.met.F.Compression in
     record {
       kept = refl;
-      sum = empty_ad m.width m.feedback q.wide.0 (m.value c.args.f.now) (text c.zeros-zeros.result) c.args.ad.now _ c.block_len-w.ensures c.zeros-zeros.ensures.block c.if-n-eq0.true;
-      long = omega arith;
+      sum = empty_ad m.width m.feedback g.met.F.Compression.wide.0 (m.value c.args.f.now) (bytes_of c.zeros-zeros.result) c.args.ad.now c.zeros-zeros.ensures ((Decides-eqb (length c.args.ad.now) 0).0 (sym c.is_empty.ensures ∙ c.if-is_empty.true));
     }
 
 pub returns : goal.returns
 returns g c =
     let m = g.F.Compression in
-    let q = g.met.F.Compression in
+    let s = c.sum_front in
     record {
-      kept = c.hash.ensures.kept ∙ c.sum_front-pass.ensures.kept;
-      sum = ad_summed m.width m.feedback q.wide.0 (m.value c.args.f.now) c.args.table.now (text c.zeros-zeros.result) c.args.ad.now (text c.ad_end-offset.result) (text c.hash.result) (text c.bitxor.result) _ c.sum_front-pass.result _ (m.value c.sum_front-pass.new.f) c.block_len-w.ensures c.sum_front-pass.ensures.kept c.zeros-zeros.ensures.block refl refl c.requires.table (omega arith) c.sum_front-pass.ensures.left c.sum_front-pass.ensures.summing c.ad_end-offset.ensures.offset c.hash.ensures.hash c.bitxor.ensures.is;
-      long = omega (arith, c.sum_front-pass.ensures.summing.wide.value);
+      kept = c.hash.ensures.kept ∙ s.ensures.kept;
+      sum = ad_summed m.width m.feedback g.met.F.Compression.wide.0 (m.value c.args.f.now) c.args.table.now (bytes_of c.zeros-zeros.result) c.args.ad.now s.result.1.now (bytes_of c.ad_end-offset.result) (bytes_of c.hash.result) (bytes_of c.bitxor.result) _ s.result.0 _ (m.value s.new.f) c.block_len.ensures s.ensures.kept c.zeros-zeros.ensures refl refl c.requires.table (search rules) s.ensures.left s.ensures.summing c.ad_end-offset.ensures c.hash.ensures.hash c.bitxor.ensures.is;
     }
