@@ -4,7 +4,8 @@ ghost use Rattle.two_pass.specs.declared.keystream.Keystream.{Keystream};
 ghost use Rattle.two_pass.specs.declared.keystream.Keystream.TheVariants.{Serial, Counter};
 ghost use Rattle.two_pass.specs.Feeds.{feed_of};
 
-use base::block::Block;
+use compression::compression::Compression;
+use compression::part::Part;
 use frames::rule::Feed;
 
 // In serial each block comes from the one before and the page, in counter from its index alone.
@@ -19,7 +20,7 @@ pub trait Chaining {
     ghost keystream: { Keystream };
 
     // What feeds the blocks behind the first, where V and ⟨8τ⟩ made the first.
-    fn feed(v: Block, bits: Block) -> Feed
+    fn feed<F: Compression>(v: Part<F>, bits: Part<F>) -> Feed<F>
         ensures { result ≡ feed_of keystream v bits };
 }
 
@@ -32,7 +33,7 @@ pub struct Counted;
 impl Chaining for Chained {
     ghost keystream = { Serial };
 
-    fn feed(_v: Block, _bits: Block) -> Feed {
+    fn feed<F: Compression>(_v: Part<F>, _bits: Part<F>) -> Feed<F> {
         Feed::Page
     }
 }
@@ -40,7 +41,7 @@ impl Chaining for Chained {
 impl Chaining for Counted {
     ghost keystream = { Counter };
 
-    fn feed(v: Block, bits: Block) -> Feed {
+    fn feed<F: Compression>(v: Part<F>, bits: Part<F>) -> Feed<F> {
         Feed::Fixed(v, bits)
     }
 }

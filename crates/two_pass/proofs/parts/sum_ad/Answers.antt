@@ -1,24 +1,17 @@
-use Rattle.std.proofs.Common.{refl, ◌∙◌, arith}
-use Rattle.base.specs.Text.{text}
+use Rattle.std.proofs.Common.{length, sym, refl, ◌∙◌, rules}
+use Rattle.std.proofs.lemmas.Bool.Decides.{Decides-eqb}
+use Rattle.compression.specs.Parts.{bytes_of}
 use Rattle.two_pass.proofs.Sums.{empty_ad, ad_is}
 use Rattle.two_pass.proofs.parts.sum_ad.Goals as goal
 
-pub returns-then-n-eq0 : goal.returns-then-n-eq0
-returns-then-n-eq0 g c =
+pub returns-then-is_empty-clause-sum : goal.returns-then-is_empty-clause-sum
+returns-then-is_empty-clause-sum g c =
     let m = g.F.Compression in
     let V = m.value c.args.f.now in
-    record {
-      kept = refl;
-      sum = empty_ad m.width m.feedback g.met.F.Compression.wide.0 V V (text c.args.d) refl (text c.zeros-zeros.result) c.args.ad.now _ c.block_len.ensures c.zeros-zeros.ensures.block c.if-n-eq0.true;
-      long = omega arith;
-    }
+    empty_ad m.width m.feedback g.met.F.Compression.wide.0 V V (bytes_of c.args.d) refl (bytes_of c.zeros-zeros.result) c.args.ad.now c.zeros-zeros.ensures ((Decides-eqb (length c.args.ad.now) 0).0 (sym c.is_empty.ensures ∙ c.if-is_empty.true))
 
-pub returns : goal.returns
-returns g c =
+pub returns-clause-sum : goal.returns-clause-sum
+returns-clause-sum g c =
     let m = g.F.Compression in
-    let s = c.sum_to_last-last in
-    record {
-      kept = c.hash.ensures.kept ∙ s.ensures.kept;
-      sum = ad_is m.width m.feedback g.met.F.Compression.wide.0 (m.value c.args.f.now) (m.value s.new.f) (text c.args.d) s.ensures.kept c.ad.result (text c.zeros-zeros.result) c.args.ad.now (text c.hash.result) (text c.bitxor.result) _ s.result c.ad.ensures c.block_len.ensures c.zeros-zeros.ensures.block (omega arith) s.ensures.summed c.hash.ensures.hash c.bitxor.ensures.is;
-      long = omega (arith, s.ensures.summed.wide.value);
-    }
+    let s = c.sum_to_last in
+    ad_is m.width m.feedback g.met.F.Compression.wide.0 (m.value c.args.f.now) (m.value s.new.f) (bytes_of c.args.d) s.ensures.kept (bytes_of c.zeros-zeros.result) c.args.ad.now s.result.1.now (bytes_of c.hash.result) (bytes_of c.bitxor.result) s.result.0 c.zeros-zeros.ensures (search rules) s.ensures.summed c.hash.ensures.hash c.bitxor.ensures.is
