@@ -1,8 +1,5 @@
 -- What an `Omd` means.
-use Rattle.std.specs.Prelude.{ℕ, min, cond, ◌&&◌, List, Ok, Err, Result, nat_le}
-use Rattle.base.specs.Refusals.{refusal}
-use Rattle.base.specs.declared.refusal.Cause.TheVariants.{TagLength}
-use Rattle.base.specs.declared.refusal.Refusal.{Refusal}
+use Rattle.std.specs.Prelude.{ℕ, min, List}
 use Rattle.scheme.specs.Meaning.{Meaning, mode}
 use Rattle.scheme.specs.declared.limits.End.TheVariants.{Back}
 use Rattle.omd.specs.Omd.{sealed}
@@ -19,7 +16,3 @@ tag_length w s = min s.tag_len w
 -- the meaning of s, where `value` is that of its compression function
 abbrev pub means : {F : Type 0} {g : _} → (w fb : ℕ) → (F → List ℕ → List ℕ → List ℕ) → Omd F g → Meaning
 means w fb value s = omd w fb (value s.f) (tag_length w s)
-
--- what setting the tag's length to n answers
-abbrev pub tag_answer : ℕ → ℕ → Result (Unit {0}) Refusal
-tag_answer w n = cond (nat_le 4 n && nat_le n w) (Ok tt) (Err (refusal TagLength 1 n))

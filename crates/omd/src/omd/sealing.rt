@@ -1,25 +1,26 @@
-// Set-up of OMD, and OMD as a mode and a scheme.
-ghost use Rattle.std.specs.Prelude.{◌≡◌, ◌≤◌, length, is_ok, if◌then◌else◌, ◌==◌};
+// Set-up of OMD, and OMD as a mode.
+ghost use Rattle.std.specs.Prelude.{◌≡◌, ◌≤◌, length, is_ok, if◌then◌else◌};
 ghost use Rattle.base.specs.Bytes.{xor};
 ghost use Rattle.base.specs.Text.{text};
 ghost use Rattle.frames.specs.Directions.{page_of, cipher_of};
 ghost use Rattle.frames.specs.Offsets.{Filled, star};
+ghost use Rattle.scheme.specs.Answers.{tag_answer};
 ghost use Rattle.scheme.specs.declared.limits.End.TheVariants.{Back};
 ghost use Rattle.omd.specs.Omd.{ad_tag, cipher, page_tag, sealed};
-ghost use Rattle.omd.specs.Means.{means, omd, tag_answer, tag_length};
+ghost use Rattle.omd.specs.Means.{means, omd, tag_length};
 ghost use Rattle.std.proofs.Common.{arith};
 ghost use Rattle.omd.specs.Laws.{sealed_same, sealed_length};
 
 use crate::omd::Omd;
 use crate::parts::{begin, run_page, sum_ad};
 use base::block::Block;
-use base::refusal::{Cause, Refusal};
+use base::refusal::Refusal;
 use compression::compression::Compression;
 use frames::offsets::OffsetTable;
 use frames::pass::Direction;
-use scheme::limits::{End, Limits, by_mode, limits_of};
-use scheme::mode::{Mode, open_by, seal_by};
-use scheme::scheme::Scheme;
+use scheme::inputs::Inputs;
+use scheme::limits::{End, check_tag_len};
+use scheme::mode::Mode;
 
 impl<F: Compression> Omd<F> {
     // OMD over `f`, with a tag of 16 bytes.
@@ -38,9 +39,7 @@ impl<F: Compression> Omd<F> {
         ensures answer { result ≡ tag_answer F.width n }
         ensures means { means F.width F.feedback F.value self.new ≡ (if is_ok result then omd F.width F.feedback (F.value self.old.f) n else means F.width F.feedback F.value self.old) }
     {
-        if n < 4 || n > F::block_len() {
-            return Err(by_mode(Cause::TagLength, n));
-        }
+        check_tag_len(F::block_len(), n)?;
         self.tag_len = n;
         Ok(())
     }
@@ -56,28 +55,19 @@ impl<F: Compression> Omd<F> {
 
     // The page in `src` to its ciphertext in `dst`, or back; then the block whose first bytes are
     // the tag.
-    fn run(
-        &mut self,
-        direction: Direction,
-        nonce: &[u8],
-        ad: &[u8],
-        src: &[u8],
-        dst: &mut [u8],
-    ) -> Block
-        requires nonce { length nonce.now ≤ 31 }
-        requires ad { length ad.now ≤ 1024 }
+    fn run(&mut self, direction: Direction, inputs: Inputs, src: &[u8], dst: &mut [u8]) -> Block
         requires src { length src.now ≤ 4096 }
         requires dst { length dst.old ≡ length src.now }
         ensures kept { F.value self.new.f ≡ F.value self.old.f }
         ensures same { self.new.tag_len ≡ self.old.tag_len }
-        ensures cipher { cipher_of direction src.now dst.new ≡ cipher F.width F.feedback (F.value self.old.f) (tag_length F.width self.old) nonce.now (page_of direction src.now dst.new) }
-        ensures tag { text result ≡ xor (page_tag F.width F.feedback (F.value self.old.f) (tag_length F.width self.old) nonce.now (page_of direction src.now dst.new)) (ad_tag F.width F.feedback (F.value self.old.f) ad.now) }
+        ensures cipher { cipher_of direction src.now dst.new ≡ cipher F.width F.feedback (F.value self.old.f) (tag_length F.width self.old) inputs.entry.nonce.now (page_of direction src.now dst.new) }
+        ensures tag { text result ≡ xor (page_tag F.width F.feedback (F.value self.old.f) (tag_length F.width self.old) inputs.entry.nonce.now (page_of direction src.now dst.new)) (ad_tag F.width F.feedback (F.value self.old.f) inputs.entry.ad.now) }
         ensures long { length (text result) ≡ F.width }
     {
         let tag_len = self.tag_len();
         self.refill();
-        let sum = sum_ad(&mut self.f, &self.table, ad);
-        let start = begin(&mut self.f, &self.table, tag_len, nonce);
+        let sum = sum_ad(&mut self.f, &self.table, inputs.ad);
+        let start = begin(&mut self.f, &self.table, tag_len, inputs.nonce);
         run_page(&mut self.f, &self.table, direction, start, src, dst) ^ sum
     }
 }
@@ -88,38 +78,6 @@ impl<F: Compression> Mode for Omd<F> {
     ghost end = { Back };
 
     ghost E = { λ s. sealed F.width F.feedback (F.value s.f) (tag_length F.width s) };
-
-    ghost tags = { λ s.
-        let least = F.wide.0 in
-        let most = F.wide.1 in
-        let low = s.low in
-        (omega arith, omega arith) };
-
-    fn tag_len(&self) -> usize {
-        self.tag_len.min(F::block_len())
-    }
-
-    fn tag_end() -> End {
-        End::Back
-    }
-
-    fn encrypt(&mut self, nonce: &[u8], ad: &[u8], page: &[u8], body: &mut [u8]) {
-        let n = page.len();
-        let end = body.len();
-        let tag = self.run(Direction::Seal, nonce, ad, page, &mut body[0..n]);
-        tag.write_front(&mut body[n..end]);
-    }
-
-    fn recover(&mut self, nonce: &[u8], ad: &[u8], body: &[u8], page: &mut [u8]) -> Block {
-        let n = page.len();
-        self.run(Direction::Open, nonce, ad, &body[0..n], page)
-    }
-}
-
-impl<F: Compression> Scheme for Omd<F> {
-    ghost meaning = { λ s. means F.width F.feedback F.value s };
-
-    ghost layers = { λ _ _ layer. (layer == 1) };
 
     ghost lawful = { λ s.
         let m = F.Compression in
@@ -135,31 +93,23 @@ impl<F: Compression> Scheme for Omd<F> {
           one_page = λ n a p q t h i e. sealed_same m.width m.feedback (omega arith) (m.value s.f) (m.sized s.f) (tag_length m.width s) (omega arith) n a p q e;
         } };
 
-    fn limits(&self) -> Limits {
-        limits_of(self.tag_len())
+    fn tag_len(&self) -> usize {
+        self.tag_len.min(F::block_len())
     }
 
-    fn tag<'a>(&self, body: &'a [u8]) -> Option<&'a [u8]> {
-        End::Back.find_tag(body, self.tag_len())
+    fn tag_end() -> End {
+        End::Back
     }
 
-    fn open(
-        &mut self,
-        nonce: &[u8],
-        ad: &[u8],
-        body: &[u8],
-        out: &mut [u8],
-    ) -> Result<usize, Refusal> {
-        open_by(self, nonce, ad, body, out)
+    fn encrypt(&mut self, inputs: Inputs, page: &[u8], body: &mut [u8]) {
+        let n = page.len();
+        let end = body.len();
+        let tag = self.run(Direction::Seal, inputs, page, &mut body[0..n]);
+        tag.write_front(&mut body[n..end]);
     }
 
-    fn seal(
-        &mut self,
-        nonce: &[u8],
-        ad: &[u8],
-        page: &[u8],
-        out: &mut [u8],
-    ) -> Result<usize, Refusal> {
-        seal_by(self, nonce, ad, page, out)
+    fn recover(&mut self, inputs: Inputs, body: &[u8], page: &mut [u8]) -> Block {
+        let n = page.len();
+        self.run(Direction::Open, inputs, &body[0..n], page)
     }
 }

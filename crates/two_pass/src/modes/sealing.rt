@@ -1,5 +1,5 @@
-// Set-up of serial and counter, and both as modes and schemes.
-ghost use Rattle.std.specs.Prelude.{◌≡◌, ◌≤◌, length, is_ok, if◌then◌else◌, ◌==◌};
+// Set-up of serial and counter, and both as modes.
+ghost use Rattle.std.specs.Prelude.{◌≡◌, ◌≤◌, length, is_ok, if◌then◌else◌};
 ghost use Rattle.base.specs.Text.{text};
 ghost use Rattle.frames.specs.Directions.{page_of, cipher_of};
 ghost use Rattle.frames.specs.Offsets.{Filled, star};
@@ -19,9 +19,9 @@ use compression::compression::Compression;
 use frames::offsets::OffsetTable;
 use frames::pass::Direction;
 use frames::rule::{Rule, pass_all};
-use scheme::limits::{End, Limits, check_tag_len, limits_of};
-use scheme::mode::{Mode, open_by, seal_by};
-use scheme::scheme::Scheme;
+use scheme::inputs::Inputs;
+use scheme::limits::{End, check_tag_len};
+use scheme::mode::Mode;
 use std::marker::PhantomData;
 
 impl<F: Compression, K: Chaining> TwoPass<F, K> {
@@ -48,32 +48,30 @@ impl<F: Compression, K: Chaining> TwoPass<F, K> {
     }
 
     // Fills the table anew, whose L[0] is 8·L*, and answers D(0).
-    fn prepare(&mut self, nonce: &[u8]) -> Block
-        requires { length nonce.now ≤ 31 }
+    fn prepare(&mut self, inputs: Inputs) -> Block
         ensures kept { F.value self.new.f ≡ F.value self.old.f }
         ensures same { tag_length F.width self.new ≡ tag_length F.width self.old }
         ensures filled { Filled F.width F.feedback 3 (star F.width (F.value self.new.f)) self.new.table }
-        ensures offset { text result ≡ nonce_offset F.width F.feedback (F.value self.old.f) nonce.now }
+        ensures offset { text result ≡ nonce_offset F.width F.feedback (F.value self.old.f) inputs.entry.nonce.now }
         ensures long { length (text result) ≡ F.width }
     {
-        let d = begin(&mut self.f, nonce);
+        let d = begin(&mut self.f, inputs.nonce);
         self.table = OffsetTable::filled(&mut self.f, 3);
         d
     }
 
     // The block whose first bytes are the tag.
-    fn tag_block(&mut self, d: Block, ad: &[u8], page: &[u8]) -> Block
+    fn tag_block(&mut self, d: Block, inputs: Inputs, page: &[u8]) -> Block
         requires filled { Filled F.width F.feedback 3 (star F.width (F.value self.old.f)) self.old.table }
         requires d { length (text d) ≡ F.width }
-        requires ad { length ad.now ≤ 1024 }
         requires page { length page.now ≤ 4096 }
         ensures kept { F.value self.new.f ≡ F.value self.old.f }
         ensures same { tag_length F.width self.new ≡ tag_length F.width self.old }
         ensures table { self.new.table ≡ self.old.table }
-        ensures tag { text result ≡ tag_block F.width F.feedback (F.value self.old.f) (text d) (ad_sum F.width F.feedback (F.value self.old.f) (text d) ad.now) page.now }
+        ensures tag { text result ≡ tag_block F.width F.feedback (F.value self.old.f) (text d) (ad_sum F.width F.feedback (F.value self.old.f) (text d) inputs.entry.ad.now) page.now }
         ensures long { length (text result) ≡ F.width }
     {
-        let sum = sum_ad(&mut self.f, &self.table, d, ad);
+        let sum = sum_ad(&mut self.f, &self.table, d, inputs.ad);
         hash_page(&mut self.f, &self.table, d, sum, page)
     }
 
@@ -106,45 +104,6 @@ impl<F: Compression, K: Chaining> Mode for TwoPass<F, K> {
 
     ghost E = { λ s. sealed F.width F.feedback (F.value s.f) K.keystream (tag_length F.width s) };
 
-    ghost tags = { λ s.
-        let least = F.wide.0 in
-        let most = F.wide.1 in
-        let low = s.low in
-        (omega arith, omega arith) };
-
-    fn tag_len(&self) -> usize {
-        self.tag_len.min(F::block_len())
-    }
-
-    fn tag_end() -> End {
-        End::Front
-    }
-
-    fn encrypt(&mut self, nonce: &[u8], ad: &[u8], page: &[u8], body: &mut [u8]) {
-        let len = self.tag_len();
-        let end = body.len();
-        let d = self.prepare(nonce);
-        let tag = self.tag_block(d, ad, page);
-        tag.write_front(&mut body[0..len]);
-        let v = Block::filled(&tag.as_slice()[0..len], F::block_len());
-        self.encipher(Direction::Seal, d, v, page, &mut body[len..end]);
-    }
-
-    fn recover(&mut self, nonce: &[u8], ad: &[u8], body: &[u8], page: &mut [u8]) -> Block {
-        let len = self.tag_len();
-        let end = body.len();
-        let d = self.prepare(nonce);
-        let v = Block::filled(&body[0..len], F::block_len());
-        self.encipher(Direction::Open, d, v, &body[len..end], page);
-        self.tag_block(d, ad, page)
-    }
-}
-
-impl<F: Compression, K: Chaining> Scheme for TwoPass<F, K> {
-    ghost meaning = { λ s. means F.width F.feedback F.value K.keystream s };
-
-    ghost layers = { λ _ _ layer. (layer == 1) };
-
     ghost lawful = { λ s.
         let m = F.Compression in
         let least = m.wide.0 in
@@ -162,31 +121,30 @@ impl<F: Compression, K: Chaining> Scheme for TwoPass<F, K> {
           one_page = λ n a p q t h i e. body_same w m.feedback (omega arith) V (m.sized s.f) (nonce_offset w m.feedback V n) (length-nonce w m.feedback (omega arith) V (m.sized s.f) n) k (tag_length w s) (omega arith) a p q e;
         } };
 
-    fn limits(&self) -> Limits {
-        limits_of(self.tag_len())
+    fn tag_len(&self) -> usize {
+        self.tag_len.min(F::block_len())
     }
 
-    fn tag<'a>(&self, body: &'a [u8]) -> Option<&'a [u8]> {
-        End::Front.find_tag(body, self.tag_len())
+    fn tag_end() -> End {
+        End::Front
     }
 
-    fn open(
-        &mut self,
-        nonce: &[u8],
-        ad: &[u8],
-        body: &[u8],
-        out: &mut [u8],
-    ) -> Result<usize, Refusal> {
-        open_by(self, nonce, ad, body, out)
+    fn encrypt(&mut self, inputs: Inputs, page: &[u8], body: &mut [u8]) {
+        let len = self.tag_len();
+        let end = body.len();
+        let d = self.prepare(inputs);
+        let tag = self.tag_block(d, inputs, page);
+        tag.write_front(&mut body[0..len]);
+        let v = Block::filled(&tag.as_slice()[0..len], F::block_len());
+        self.encipher(Direction::Seal, d, v, page, &mut body[len..end]);
     }
 
-    fn seal(
-        &mut self,
-        nonce: &[u8],
-        ad: &[u8],
-        page: &[u8],
-        out: &mut [u8],
-    ) -> Result<usize, Refusal> {
-        seal_by(self, nonce, ad, page, out)
+    fn recover(&mut self, inputs: Inputs, body: &[u8], page: &mut [u8]) -> Block {
+        let len = self.tag_len();
+        let end = body.len();
+        let d = self.prepare(inputs);
+        let v = Block::filled(&body[0..len], F::block_len());
+        self.encipher(Direction::Open, d, v, &body[len..end], page);
+        self.tag_block(d, inputs, page)
     }
 }
