@@ -13,8 +13,8 @@ pub const NONCE_MIN: usize = 12;
 
 pub const NONCE_MAX: usize = 31;
 
-// What every mode takes.
-const LONGEST_AD: usize = 1024;
+// The longest associated data and the longest page of any scheme. Every mode takes as much.
+pub const LONGEST_AD: usize = 1024;
 
 const LONGEST_PAGE: usize = 4096;
 
