@@ -146,10 +146,9 @@ impl End {
         ensures part { result.now ≡ tag_part self tag body.now }
         ensures long { length result.now ≡ tag }
     {
-        let n = body.len();
         match self {
-            End::Front => &body[0..tag],
-            End::Back => &body[n - tag..n],
+            End::Front => &body[..tag],
+            End::Back => &body[body.len() - tag..],
         }
     }
 

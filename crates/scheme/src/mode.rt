@@ -13,6 +13,8 @@ use base::block::Block;
 use base::refusal::Refusal;
 
 // The two ways of a mode, on inputs within the limits.
+// Kept: the length of `page` is a clause of both. One way reads the page and the other writes it,
+// so that it would be two types, each made in one place.
 pub trait Mode {
     // The tag's length.
     ghost tag: { Self → ℕ };
@@ -71,7 +73,7 @@ impl<M: Mode> Scheme for M {
         out: &mut [u8],
     ) -> Result<usize, Refusal> {
         let (inputs, n) = may_open(self.tag_len(), nonce, ad, body, out.len())?;
-        open_into(self, inputs, body, &mut out[0..n])?;
+        open_into(self, inputs, body, &mut out[..n])?;
         Ok(n)
     }
 
@@ -83,7 +85,7 @@ impl<M: Mode> Scheme for M {
         out: &mut [u8],
     ) -> Result<usize, Refusal> {
         let (inputs, n) = may_seal(self.tag_len(), nonce, ad, page, out.len())?;
-        self.encrypt(inputs, page, &mut out[0..n]);
+        self.encrypt(inputs, page, &mut out[..n]);
         Ok(n)
     }
 }
