@@ -30,11 +30,10 @@ means meaning s = addressed s.address (meaning s.below)
 abbrev pub names : {S : Type 0} → (S → Cause → ℕ → Bool) → Addressed S → Cause → ℕ → Bool
 names layers s = address_layers (layers s.below)
 
--- a joined to the address in the first k bytes of `all`, which the scheme below takes
-pub record Joined (m : Meaning) (address a all : List ℕ) (k : ℕ) : Type 0 where
+-- `given` is a joined to the address, which the scheme below takes
+pub record Joined (m : Meaning) (address a given : List ℕ) : Type 0 where
   pub fits : length a ≤ (addressed address m).limits.ad
-  pub inside : k ≤ length all
-  pub is : take k all ≡ cut m address ++ a
+  pub is : given ≡ cut m address ++ a
 
 -- e refuses associated data a that is longer than this layer takes
 pub record TooLong (m : Meaning) (address a : List ℕ) (e : Refusal) : Type 0 where

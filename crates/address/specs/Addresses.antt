@@ -1,9 +1,8 @@
 -- An address in front of the associated data hands on.
-use Rattle.std.specs.Prelude.{◌≡◌, ℕ, ◌-◌, ◌≤◌, List, ◌++◌, length, take}
-use Rattle.std.proofs.Common.{ap, ◌∙◌, arith, length-append, length-take}
-use Rattle.base.proofs.Parts.{from_zero}
+use Rattle.std.specs.Prelude.{ℕ, ◌≤◌, List, ◌++◌, length}
+use Rattle.std.proofs.Common.{arith, length-append, length-take}
 use Rattle.scheme.specs.Meaning.{Meaning, Lawful}
-use Rattle.address.specs.Address.{Joined, addressed, cut}
+use Rattle.address.specs.Address.{addressed, cut}
 use Rattle.address.specs.Handing.{lawful}
 
 module _ (address : List ℕ) (m : Meaning) where
@@ -20,7 +19,3 @@ module _ (address : List ℕ) (m : Meaning) where
 
   pub addressed_lawful : Lawful m → Lawful (addressed address m)
   addressed_lawful law = let h = law.ad_high in lawful longest behind m within (omega arith) law
-
-  -- the first k bytes of `all`, as the code cuts them
-  pub given : (a all : List ℕ) (k : ℕ) → Joined m address a all k → take (k - 0) all ≡ behind a
-  given a all k joined = ap (λ i. take i all) (from_zero k) ∙ joined.is

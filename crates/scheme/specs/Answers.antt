@@ -1,5 +1,5 @@
 -- What sealing and opening answer, and what they leave in the output.
-use Rattle.std.specs.Prelude.{◌≡◌, ℕ, ◌≤◌, cond, ◌&&◌, List, ◌++◌, length, take, drop, Some, None, Ok, Err, Option, Result, nat_le, nat_lt}
+use Rattle.std.specs.Prelude.{◌≡◌, ℕ, cond, ◌&&◌, List, ◌++◌, length, take, drop, Some, None, Ok, Err, Option, Result, nat_le, nat_lt}
 use Rattle.base.specs.Bytes.{zeros}
 use Rattle.base.specs.Refusals.{refusal}
 use Rattle.base.specs.declared.refusal.Cause.{Cause}
@@ -90,27 +90,3 @@ Shut m n a b before e after None = Zeroed m n a b before e after
 abbrev pub Opened : Meaning → (n a b before : List ℕ) → Result ℕ Refusal → List ℕ → Type 0
 Opened m n a b before (Ok k) after = Gave m n a b before k after
 Opened m n a b before (Err e) after = Shut m n a b before e after (open_fault m.limits n a b (length before))
-
--- nonce and associated data are in order, so that what follows decides
-pub record InputFits (l : Limits) (n a : List ℕ) : Type 0 where
-  pub passes : (next : Option Fault) → input_fault l n a next ≡ next
-  pub nonce : length n ≤ 31
-  pub ad : length a ≤ l.ad
-
--- nothing speaks against sealing: k bytes are written
-pub record MaySeal (l : Limits) (n a p : List ℕ) (room k : ℕ) : Type 0 where
-  pub none : seal_fault l n a p room ≡ None
-  pub long : k ≡ body_length l (length p)
-  pub nonce : length n ≤ 31
-  pub ad : length a ≤ l.ad
-  pub page : length p ≤ l.page
-  pub fits : k ≤ room
-
--- nothing speaks against opening: the page has k bytes
-pub record MayOpen (l : Limits) (n a b : List ℕ) (room k : ℕ) : Type 0 where
-  pub none : open_fault l n a b room ≡ None
-  pub long : length b ≡ body_length l k
-  pub nonce : length n ≤ 31
-  pub ad : length a ≤ l.ad
-  pub page : k ≤ l.page
-  pub fits : k ≤ room

@@ -5,6 +5,7 @@
 #![tactic(auto)]
 
 mod guard;
+pub mod inputs;
 pub mod limits;
 pub mod mode;
 pub mod scheme;

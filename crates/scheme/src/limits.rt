@@ -1,9 +1,11 @@
 // What a scheme takes, in which order it refuses, and where the tag stands.
-ghost use Rattle.std.specs.Prelude.{◌≡◌, ◌<◌, ◌≤◌, length, IfErr, Some, Option, MatchOption, MatchResult, OnOk};
+ghost use Rattle.std.specs.Prelude.{◌≡◌, ◌<◌, ◌≤◌, length, Some, MatchOption, MatchResult, OnOk};
 ghost use Rattle.base.specs.Refusals.{refusal};
 ghost use Rattle.scheme.specs.Meaning.{mode_limits, tag_part};
-ghost use Rattle.scheme.specs.Answers.{Fault, InputFits, MayOpen, MaySeal, input_fault, open_fault, said, seal_fault, tag_answer};
+ghost use Rattle.scheme.specs.Answers.{open_fault, seal_fault, tag_answer};
+ghost use Rattle.scheme.specs.Progress.{InputFault, InputFits, MayOpen, MaySeal};
 
+use crate::inputs::Inputs;
 use base::refusal::{Cause, Refusal};
 
 // Shortest and longest nonce.
@@ -11,10 +13,13 @@ pub const NONCE_MIN: usize = 12;
 
 pub const NONCE_MAX: usize = 31;
 
-// What every mode takes.
-const LONGEST_AD: usize = 1024;
+// The longest associated data and the longest page of any scheme. Every mode takes as much.
+pub const LONGEST_AD: usize = 1024;
 
 const LONGEST_PAGE: usize = 4096;
+
+// The layer of the modes.
+const LAYER: u8 = 1;
 
 // The tag's length, the longest associated data and the longest page.
 #[derive(Clone, Copy)]
@@ -42,14 +47,19 @@ pub fn limits_of(tag: usize) -> Limits
     }
 }
 
-// A refusal by a mode, which is layer 1.
-pub fn by_mode(cause: Cause, figure: usize) -> Refusal
-    ensures { result ≡ refusal cause 1 figure }
-{
-    Refusal {
-        cause,
-        layer: 1,
-        figure,
+// Why a mode refuses, and a figure.
+#[derive(Clone, Copy)]
+pub(crate) struct Fault(pub Cause, pub usize);
+
+impl From<Fault> for Refusal {
+    ghost from_gives = { λ f e. e ≡ refusal f.0 1 f.1 };
+
+    fn from(fault: Fault) -> Refusal {
+        Refusal {
+            cause: fault.0,
+            layer: LAYER,
+            figure: fault.1,
+        }
     }
 }
 
@@ -59,72 +69,74 @@ pub fn check_tag_len(width: usize, n: usize) -> Result<(), Refusal>
     ensures fits { OnOk result ((4 ≤ n) × (n ≤ width)) }
 {
     if n < 4 || n > width {
-        return Err(by_mode(Cause::TagLength, n));
+        return Err(Fault(Cause::TagLength, n).into());
     }
     Ok(())
 }
 
 // The faults that sealing and opening share.
-fn check_input(limits: Limits, nonce: &[u8], ad: &[u8]) -> Result<(), Refusal>
-    ensures says { MatchResult result (λ _. InputFits limits nonce.now ad.now) (λ e. (next : Option Fault) → input_fault limits nonce.now ad.now next ≡ Some (said e)) }
-    ensures layer { IfErr result (λ e. e.layer ≡ 1) }
+fn check_inputs<'a>(limits: Limits, nonce: &'a [u8], ad: &'a [u8]) -> Result<Inputs<'a>, Fault>
+    requires { limits.ad ≤ 1024 }
+    ensures { MatchResult result (λ i. (i.nonce.now ≡ nonce.now) × (i.ad.now ≡ ad.now) × InputFits limits nonce.now ad.now) (λ e. InputFault limits nonce.now ad.now (e.0, e.1)) }
 {
     if ad.len() > limits.ad {
-        return Err(by_mode(Cause::AdTooLong, ad.len()));
+        return Err(Fault(Cause::AdTooLong, ad.len()));
     }
     if nonce.len() < NONCE_MIN || nonce.len() > NONCE_MAX {
-        return Err(by_mode(Cause::NonceLength, nonce.len()));
+        return Err(Fault(Cause::NonceLength, nonce.len()));
     }
-    Ok(())
+    Ok(Inputs { nonce, ad })
 }
 
-// The length of the body of a page that may be sealed into `room` bytes.
-pub(crate) fn may_seal(
-    limits: Limits,
-    nonce: &[u8],
-    ad: &[u8],
+// The inputs and the length of the body of a page that may be sealed into `room` bytes, by a mode
+// whose tag has `tag` bytes.
+pub(crate) fn may_seal<'a>(
+    tag: usize,
+    nonce: &'a [u8],
+    ad: &'a [u8],
     page: &[u8],
     room: usize,
-) -> Result<usize, Refusal>
-    requires { (limits.tag ≤ 64) × (limits.page ≤ 4096) }
-    ensures says { MatchResult result (λ k. MaySeal limits nonce.now ad.now page.now room k) (λ e. seal_fault limits nonce.now ad.now page.now room ≡ Some (said e)) }
-    ensures layer { IfErr result (λ e. e.layer ≡ 1) }
+) -> Result<(Inputs<'a>, usize), Fault>
+    requires { tag ≤ 64 }
+    ensures { MatchResult result (λ r. (r.0.nonce.now ≡ nonce.now) × (r.0.ad.now ≡ ad.now) × MaySeal (mode_limits tag) nonce.now ad.now page.now room r.1) (λ e. seal_fault (mode_limits tag) nonce.now ad.now page.now room ≡ Some (e.0, e.1)) }
 {
-    check_input(limits, nonce, ad)?;
+    let limits = limits_of(tag);
+    let inputs = check_inputs(limits, nonce, ad)?;
     if page.len() > limits.page {
-        return Err(by_mode(Cause::PageTooLong, page.len()));
+        return Err(Fault(Cause::PageTooLong, page.len()));
     }
     let needed = page.len() + limits.tag;
     if room < needed {
-        return Err(by_mode(Cause::OutputTooShort, needed));
+        return Err(Fault(Cause::OutputTooShort, needed));
     }
-    Ok(needed)
+    Ok((inputs, needed))
 }
 
-// The length of the page in a body that may be opened into `room` bytes.
-pub(crate) fn may_open(
-    limits: Limits,
-    nonce: &[u8],
-    ad: &[u8],
+// The inputs and the length of the page in a body that may be opened into `room` bytes, by a mode
+// whose tag has `tag` bytes.
+pub(crate) fn may_open<'a>(
+    tag: usize,
+    nonce: &'a [u8],
+    ad: &'a [u8],
     body: &[u8],
     room: usize,
-) -> Result<usize, Refusal>
-    requires { (limits.tag ≤ 64) × (limits.page ≤ 4096) }
-    ensures says { MatchResult result (λ k. MayOpen limits nonce.now ad.now body.now room k) (λ e. open_fault limits nonce.now ad.now body.now room ≡ Some (said e)) }
-    ensures layer { IfErr result (λ e. e.layer ≡ 1) }
+) -> Result<(Inputs<'a>, usize), Fault>
+    requires { tag ≤ 64 }
+    ensures { MatchResult result (λ r. (r.0.nonce.now ≡ nonce.now) × (r.0.ad.now ≡ ad.now) × MayOpen (mode_limits tag) nonce.now ad.now body.now room r.1) (λ e. open_fault (mode_limits tag) nonce.now ad.now body.now room ≡ Some (e.0, e.1)) }
 {
-    check_input(limits, nonce, ad)?;
+    let limits = limits_of(tag);
+    let inputs = check_inputs(limits, nonce, ad)?;
     if body.len() < limits.tag {
-        return Err(by_mode(Cause::BodyTooShort, body.len()));
+        return Err(Fault(Cause::BodyTooShort, body.len()));
     }
     if body.len() > limits.page + limits.tag {
-        return Err(by_mode(Cause::PageTooLong, body.len()));
+        return Err(Fault(Cause::PageTooLong, body.len()));
     }
     let needed = body.len() - limits.tag;
     if room < needed {
-        return Err(by_mode(Cause::OutputTooShort, needed));
+        return Err(Fault(Cause::OutputTooShort, needed));
     }
-    Ok(needed)
+    Ok((inputs, needed))
 }
 
 impl End {
@@ -134,10 +146,9 @@ impl End {
         ensures part { result.now ≡ tag_part self tag body.now }
         ensures long { length result.now ≡ tag }
     {
-        let n = body.len();
         match self {
-            End::Front => &body[0..tag],
-            End::Back => &body[n - tag..n],
+            End::Front => &body[..tag],
+            End::Back => &body[body.len() - tag..],
         }
     }
 

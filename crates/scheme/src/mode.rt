@@ -1,17 +1,20 @@
-// What a mode gives, and how any mode seals and opens under the limits.
-ghost use Rattle.std.specs.Prelude.{◌≡◌, ℕ, ◌+◌, ◌≤◌, List, length, IfErr};
+// What a mode gives, and how any mode is a scheme.
+ghost use Rattle.std.specs.Prelude.{◌≡◌, ℕ, ◌+◌, ◌≤◌, List, length, ◌==◌};
 ghost use Rattle.base.specs.Text.{text};
-ghost use Rattle.scheme.specs.Meaning.{mode};
-ghost use Rattle.scheme.specs.Answers.{Sealed, Opened};
+ghost use Rattle.scheme.specs.Meaning.{Lawful, mode};
 ghost use Rattle.scheme.specs.Recovery.{Recovered};
 ghost use Rattle.scheme.specs.declared.limits.End.{End};
 
 use crate::guard::open_into;
-use crate::limits::{End, limits_of, may_open, may_seal};
+use crate::inputs::Inputs;
+use crate::limits::{End, Limits, limits_of, may_open, may_seal};
+use crate::scheme::Scheme;
 use base::block::Block;
 use base::refusal::Refusal;
 
 // The two ways of a mode, on inputs within the limits.
+// Kept: the length of `page` is a clause of both. One way reads the page and the other writes it,
+// so that it would be two types, each made in one place.
 pub trait Mode {
     // The tag's length.
     ghost tag: { Self → ℕ };
@@ -29,63 +32,60 @@ pub trait Mode {
         ensures { result ≡ end };
 
     // Seals `page` into `body`, which has just the room.
-    fn encrypt(&mut self, nonce: &[u8], ad: &[u8], page: &[u8], body: &mut [u8])
-        requires nonce { length nonce.now ≤ 31 }
-        requires ad { length ad.now ≤ 1024 }
+    fn encrypt(&mut self, inputs: Inputs, page: &[u8], body: &mut [u8])
         requires page { length page.now ≤ 4096 }
         requires body { length body.old ≡ length page.now + tag self.old }
-        ensures tag { tag self.new ≡ tag self.old }
-        ensures kept { E self.new ≡ E self.old }
-        ensures body { body.new ≡ E self.old nonce.now ad.now page.now };
+        ensures kept { mode (tag self.new) end (E self.new) ≡ mode (tag self.old) end (E self.old) }
+        ensures body { body.new ≡ E self.old inputs.entry.nonce.now inputs.entry.ad.now page.now };
 
     // Writes to `page` the only page that can have given `body`, and answers the block whose first
     // bytes are that page's tag. The page is genuine if the body has this tag.
-    fn recover(&mut self, nonce: &[u8], ad: &[u8], body: &[u8], page: &mut [u8]) -> Block
-        requires nonce { length nonce.now ≤ 31 }
-        requires ad { length ad.now ≤ 1024 }
+    fn recover(&mut self, inputs: Inputs, body: &[u8], page: &mut [u8]) -> Block
         requires page { length page.old ≤ 4096 }
         requires body { length body.now ≡ length page.old + tag self.old }
-        ensures tag { tag self.new ≡ tag self.old }
-        ensures kept { E self.new ≡ E self.old }
-        ensures recovered { Recovered (mode (tag self.old) end (E self.old)) nonce.now ad.now body.now page.new (text result) };
+        ensures kept { mode (tag self.new) end (E self.new) ≡ mode (tag self.old) end (E self.old) }
+        ensures recovered { Recovered (mode (tag self.old) end (E self.old)) inputs.entry.nonce.now inputs.entry.ad.now body.now page.new (text result) };
 
-    ghost tags: { (s : Self) → (4 ≤ tag s) × (tag s ≤ 64) };
+    ghost lawful: { (s : Self) → Lawful (mode (tag s) end (E s)) };
 }
 
-// Seals a page by a mode: sealing of any scheme that is a mode.
-pub fn seal_by<M: Mode>(
-    m: &mut M,
-    nonce: &[u8],
-    ad: &[u8],
-    page: &[u8],
-    out: &mut [u8],
-) -> Result<usize, Refusal>
-    ensures tag { M.tag m.new ≡ M.tag m.old }
-    ensures kept { M.E m.new ≡ M.E m.old }
-    ensures layer { IfErr result (λ e. e.layer ≡ 1) }
-    ensures sealed { Sealed (mode (M.tag m.old) M.end (M.E m.old)) nonce.now ad.now page.now out.old result out.new }
-{
-    let limits = limits_of(m.tag_len());
-    let n = may_seal(limits, nonce, ad, page, out.len())?;
-    m.encrypt(nonce, ad, page, &mut out[0..n]);
-    Ok(n)
-}
+// Each mode is a scheme of layer 1.
+impl<M: Mode> Scheme for M {
+    ghost meaning = { λ s. mode (M.tag s) M.end (M.E s) };
 
-// Opens a body by a mode: opening of any scheme that is a mode.
-pub fn open_by<M: Mode>(
-    m: &mut M,
-    nonce: &[u8],
-    ad: &[u8],
-    body: &[u8],
-    out: &mut [u8],
-) -> Result<usize, Refusal>
-    ensures tag { M.tag m.new ≡ M.tag m.old }
-    ensures kept { M.E m.new ≡ M.E m.old }
-    ensures layer { IfErr result (λ e. e.layer ≡ 1) }
-    ensures opened { Opened (mode (M.tag m.old) M.end (M.E m.old)) nonce.now ad.now body.now out.old result out.new }
-{
-    let limits = limits_of(m.tag_len());
-    let n = may_open(limits, nonce, ad, body, out.len())?;
-    open_into(m, nonce, ad, body, &mut out[0..n])?;
-    Ok(n)
+    ghost layers = { λ _ _ layer. (layer == 1) };
+
+    ghost lawful = { λ s. M.lawful s };
+
+    fn limits(&self) -> Limits {
+        limits_of(self.tag_len())
+    }
+
+    fn tag<'a>(&self, body: &'a [u8]) -> Option<&'a [u8]> {
+        M::tag_end().find_tag(body, self.tag_len())
+    }
+
+    fn open(
+        &mut self,
+        nonce: &[u8],
+        ad: &[u8],
+        body: &[u8],
+        out: &mut [u8],
+    ) -> Result<usize, Refusal> {
+        let (inputs, n) = may_open(self.tag_len(), nonce, ad, body, out.len())?;
+        open_into(self, inputs, body, &mut out[..n])?;
+        Ok(n)
+    }
+
+    fn seal(
+        &mut self,
+        nonce: &[u8],
+        ad: &[u8],
+        page: &[u8],
+        out: &mut [u8],
+    ) -> Result<usize, Refusal> {
+        let (inputs, n) = may_seal(self.tag_len(), nonce, ad, page, out.len())?;
+        self.encrypt(inputs, page, &mut out[..n]);
+        Ok(n)
+    }
 }

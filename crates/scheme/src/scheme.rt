@@ -7,6 +7,7 @@ ghost use Rattle.scheme.specs.Answers.{Sealed, Opened};
 use crate::limits::Limits;
 use base::refusal::Refusal;
 
+// Kept: nonce and associated data stand apart here, since callers hand in what nobody has measured.
 pub trait Scheme {
     // Limits, the tag's end and the map E, as one value.
     ghost meaning: { Self → Meaning };
