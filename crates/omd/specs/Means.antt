@@ -1,5 +1,5 @@
 -- What an `Omd` means.
-use Rattle.std.specs.Prelude.{ℕ, min, List}
+use Rattle.std.specs.Prelude.{ℕ, List}
 use Rattle.scheme.specs.Meaning.{Meaning, mode}
 use Rattle.scheme.specs.declared.limits.End.TheVariants.{Back}
 use Rattle.omd.specs.Omd.{sealed}
@@ -9,10 +9,6 @@ use Rattle.omd.specs.declared.omd.Omd.{Omd}
 abbrev pub omd : (w fb : ℕ) → (List ℕ → List ℕ → List ℕ) → ℕ → Meaning
 omd w fb F tau = mode tau Back (sealed w fb F tau)
 
--- the tag's length. Set-up keeps it within the width; the type cannot say so, and this does
-abbrev pub tag_length : {F : Type 0} {g : _} → ℕ → Omd F g → ℕ
-tag_length w s = min s.tag_len w
-
 -- the meaning of s, where `value` is that of its compression function
 abbrev pub means : {F : Type 0} {g : _} → (w fb : ℕ) → (F → List ℕ → List ℕ → List ℕ) → Omd F g → Meaning
-means w fb value s = omd w fb (value s.f) (tag_length w s)
+means w fb value s = omd w fb (value s.f) s.tag_len

@@ -85,6 +85,14 @@ impl<F: Compression> Part<F> {
         self.block.as_slice()
     }
 
+    // Writes the first bytes to `out`.
+    pub fn write_front(&self, out: &mut [u8])
+        requires { length out.old ≤ F.width }
+        ensures { out.new ≡ take (length out.old) (bytes_of self.now) }
+    {
+        self.block.write_front(out);
+    }
+
     // Writes `src` ⊕ the first bytes to `dst`.
     pub fn xor_to(&self, src: &[u8], dst: &mut [u8])
         requires src { length src.now ≤ F.width }

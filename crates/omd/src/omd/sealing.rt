@@ -2,12 +2,13 @@
 ghost use Rattle.std.specs.Prelude.{◌≡◌, ◌≤◌, length, is_ok, if◌then◌else◌};
 ghost use Rattle.base.specs.Bytes.{xor};
 ghost use Rattle.base.specs.Text.{text};
+ghost use Rattle.compression.specs.Parts.{bytes_of};
 ghost use Rattle.frames.specs.Directions.{page_of, cipher_of};
 ghost use Rattle.frames.specs.Offsets.{Filled, star};
 ghost use Rattle.scheme.specs.Answers.{tag_answer};
 ghost use Rattle.scheme.specs.declared.limits.End.TheVariants.{Back};
 ghost use Rattle.omd.specs.Omd.{ad_tag, cipher, page_tag, sealed};
-ghost use Rattle.omd.specs.Means.{means, omd, tag_length};
+ghost use Rattle.omd.specs.Means.{means, omd};
 ghost use Rattle.std.proofs.Common.{arith};
 ghost use Rattle.omd.specs.Laws.{sealed_same, sealed_length};
 
@@ -16,8 +17,9 @@ use crate::parts::{begin, run_page, sum_ad};
 use base::block::Block;
 use base::refusal::Refusal;
 use compression::compression::Compression;
+use compression::part::Part;
 use frames::offsets::OffsetTable;
-use frames::pass::Direction;
+use frames::rule::Direction;
 use scheme::inputs::Inputs;
 use scheme::limits::{End, check_tag_len};
 use scheme::mode::Mode;
@@ -30,7 +32,7 @@ impl<F: Compression> Omd<F> {
         Omd {
             f,
             tag_len: 16,
-            table: OffsetTable::empty(),
+            table: None,
         }
     }
 
@@ -44,57 +46,61 @@ impl<F: Compression> Omd<F> {
         Ok(())
     }
 
-    // Fills the table anew: L[0] is 4·L*.
-    fn refill(&mut self)
+    // The table of offsets: L[0] is 4·L*.
+    fn table(&mut self) -> OffsetTable<F>
         ensures kept { F.value self.new.f ≡ F.value self.old.f }
         ensures same { self.new.tag_len ≡ self.old.tag_len }
-        ensures filled { Filled F.width F.feedback 2 (star F.width (F.value self.old.f)) self.new.table }
+        ensures filled { Filled F.width F.feedback 2 (star F.width (F.value self.old.f)) result }
     {
-        self.table = OffsetTable::filled(&mut self.f, 2);
+        if let Some(table) = self.table {
+            return table;
+        }
+        let table = OffsetTable::filled(&mut self.f, 2);
+        self.table = Some(table);
+        table
     }
 
-    // The page in `src` to its ciphertext in `dst`, or back; then the block whose first bytes are
+    // The page in `src` to its ciphertext in `dst`, or back; then the part whose first bytes are
     // the tag.
-    fn run(&mut self, direction: Direction, inputs: Inputs, src: &[u8], dst: &mut [u8]) -> Block
+    fn run(&mut self, direction: Direction, inputs: Inputs, src: &[u8], dst: &mut [u8]) -> Part<F>
         requires src { length src.now ≤ 4096 }
         requires dst { length dst.old ≡ length src.now }
         ensures kept { F.value self.new.f ≡ F.value self.old.f }
         ensures same { self.new.tag_len ≡ self.old.tag_len }
-        ensures cipher { cipher_of direction src.now dst.new ≡ cipher F.width F.feedback (F.value self.old.f) (tag_length F.width self.old) inputs.entry.nonce.now (page_of direction src.now dst.new) }
-        ensures tag { text result ≡ xor (page_tag F.width F.feedback (F.value self.old.f) (tag_length F.width self.old) inputs.entry.nonce.now (page_of direction src.now dst.new)) (ad_tag F.width F.feedback (F.value self.old.f) inputs.entry.ad.now) }
-        ensures long { length (text result) ≡ F.width }
+        ensures cipher { cipher_of direction src.now dst.new ≡ cipher F.width F.feedback (F.value self.old.f) self.old.tag_len inputs.entry.nonce.now (page_of direction src.now dst.new) }
+        ensures tag { bytes_of result ≡ xor (page_tag F.width F.feedback (F.value self.old.f) self.old.tag_len inputs.entry.nonce.now (page_of direction src.now dst.new)) (ad_tag F.width F.feedback (F.value self.old.f) inputs.entry.ad.now) }
     {
-        let tag_len = self.tag_len();
-        self.refill();
-        let sum = sum_ad(&mut self.f, &self.table, inputs.ad);
-        let start = begin(&mut self.f, &self.table, tag_len, inputs.nonce);
-        run_page(&mut self.f, &self.table, direction, start, src, dst) ^ sum
+        let table = self.table();
+        let sum = sum_ad(&mut self.f, &table, inputs.ad);
+        let start = begin(&mut self.f, &table, self.tag_len, inputs.nonce);
+        run_page(&mut self.f, &table, direction, start, src, dst) ^ sum
     }
 }
 
 impl<F: Compression> Mode for Omd<F> {
-    ghost tag = { λ s. tag_length F.width s };
+    ghost tag = { λ s. s.tag_len };
 
     ghost end = { Back };
 
-    ghost E = { λ s. sealed F.width F.feedback (F.value s.f) (tag_length F.width s) };
+    ghost E = { λ s. sealed F.width F.feedback (F.value s.f) s.tag_len };
 
     ghost lawful = { λ s.
         let m = F.Compression in
         let least = m.wide.0 in
         let most = m.wide.1 in
         let low = s.low in
+        let high = s.high in
         record {
           tag_low = omega arith;
           tag_high = omega arith;
           ad_high = omega arith;
           page_high = omega arith;
-          longer = λ n a p t h. sealed_length m.width m.feedback (omega arith) (m.value s.f) (m.sized s.f) (tag_length m.width s) (omega arith) n a p;
-          one_page = λ n a p q t h i e. sealed_same m.width m.feedback (omega arith) (m.value s.f) (m.sized s.f) (tag_length m.width s) (omega arith) n a p q e;
+          longer = λ n a p t h. sealed_length m.width m.feedback (omega arith) (m.value s.f) (m.sized s.f) s.tag_len (omega arith) n a p;
+          one_page = λ n a p q t h i e. sealed_same m.width m.feedback (omega arith) (m.value s.f) (m.sized s.f) s.tag_len (omega arith) n a p q e;
         } };
 
     fn tag_len(&self) -> usize {
-        self.tag_len.min(F::block_len())
+        self.tag_len
     }
 
     fn tag_end() -> End {
@@ -110,6 +116,6 @@ impl<F: Compression> Mode for Omd<F> {
 
     fn recover(&mut self, inputs: Inputs, body: &[u8], page: &mut [u8]) -> Block {
         let n = page.len();
-        self.run(Direction::Open, inputs, &body[0..n], page)
+        self.run(Direction::Open, inputs, &body[0..n], page).block()
     }
 }

@@ -1,6 +1,5 @@
 use Rattle.std.proofs.Common.{length, arith}
-use Rattle.base.specs.Text.{text}
-use Rattle.omd.specs.Means.{tag_length}
+use Rattle.compression.specs.Parts.{bytes_of}
 use Rattle.omd.specs.Laws.{tells, only}
 use Rattle.omd.proofs.omd.sealing.OmdMode.recover.Goals as goal
 
@@ -10,8 +9,9 @@ returns-clause-recovered g c =
     let q = g.met.F.Compression in
     let z = q.wide.0 in
     let s = c.args.self.now in
-    let w = m.width in
+    let n = c.args.inputs.nonce.now in
+    let a = c.args.inputs.ad.now in
     record {
-      tells = tells w m.feedback (omega arith) (m.value s.f) (q.sized s.f) (tag_length w s) (omega arith) c.args.inputs.nonce.now c.args.inputs.ad.now (length c.args.page.now) c.args.body.now c.run.new.dst (text c.run.result) (omega arith) c.requires.body c.run.ensures.cipher c.run.ensures.tag;
-      only = only w m.feedback (omega arith) (m.value s.f) (q.sized s.f) (tag_length w s) (omega arith) c.args.inputs.nonce.now c.args.inputs.ad.now (length c.args.page.now) c.args.body.now c.run.new.dst (text c.run.result) (omega arith) c.requires.body c.run.ensures.cipher c.run.ensures.tag;
+      tells = tells m.width m.feedback (omega arith) (m.value s.f) (q.sized s.f) s.tag_len s.high n a (length c.args.page.now) c.args.body.now c.run.new.dst (bytes_of c.run.result) (omega arith) c.requires.body c.run.ensures.cipher c.run.ensures.tag;
+      only = only m.width m.feedback (omega arith) (m.value s.f) (q.sized s.f) s.tag_len s.high n a (length c.args.page.now) c.args.body.now c.run.new.dst (bytes_of c.run.result) (omega arith) c.requires.body c.run.ensures.cipher c.run.ensures.tag;
     }
