@@ -6,4 +6,3 @@ pub mod Pads
 pub mod Cuts
 pub mod Xors
 pub mod Doubles
-pub mod Texts

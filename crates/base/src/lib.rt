@@ -1,9 +1,8 @@
-// The vocabulary that everything above rests on: blocks of bytes as values, and refusals.
-// Refusals (`refusal`) belong to the product's surface. Blocks and slices are internal: some of
-// their functions ask a length of their caller.
-// Read first: specs/Bytes.antt, then block.rt.
+// The vocabulary that everything above rests on: strings of bytes in place, and refusals.
+// Refusals (`refusal`) belong to the product's surface. Slices are internal: some of their
+// functions ask a length of their caller.
+// Read first: specs/Bytes.antt, then slices.rt.
 #![tactic(auto)]
 
-pub mod block;
 pub mod refusal;
 pub mod slices;

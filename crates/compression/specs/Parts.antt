@@ -1,8 +1,7 @@
 -- What a part of a compression function holds.
-use Rattle.std.specs.Prelude.{ℕ, List}
-use Rattle.base.specs.Text.{text}
+use Rattle.std.specs.Prelude.{ℕ, List, take}
 use Rattle.compression.specs.declared.part.Part.{Part}
 
--- its bytes, as many as the width
+-- the first `width` of its bytes; those behind do not count
 abbrev pub bytes_of : {F : Type 0} {g : _} → Part F g → List ℕ
-bytes_of p = text p.block
+bytes_of {g = g} p = take g.width p.bytes

@@ -1,9 +1,7 @@
 ghost use Rattle.std.specs.Prelude.{◌≡◌, ℕ, ◌^◌, ◌<◌, ◌≤◌, List, length, is_ok, if◌then◌else◌, Ok, nat_eq};
 ghost use Rattle.base.specs.Bytes.{Bytes};
-ghost use Rattle.base.specs.Text.{text};
 ghost use Rattle.compression.specs.Answers.{answer, misfit};
 
-use base::block::Block;
 use base::refusal::{Cause, Refusal};
 
 // A keyed compression function F. It means a fixed map from two parts of `width` bytes, H and M,
@@ -63,20 +61,4 @@ pub fn check_parts(width: usize, h: usize, m: usize, out: usize) -> Result<(), R
     check_part(width, h)?;
     check_part(width, m)?;
     check_part(width, out)
-}
-
-// F of two blocks that have the width.
-pub fn step<F: Compression>(f: &mut F, h: Block, m: Block) -> Block
-    requires h { length (text h) ≡ F.width }
-    requires m { length (text m) ≡ F.width }
-    ensures kept { F.value f.new ≡ F.value f.old }
-    ensures block { text result ≡ F.value f.old (text h) (text m) }
-    ensures long { length (text result) ≡ F.width }
-{
-    let w = F::block_len();
-    let mut out = [0; 64];
-    match f.compress(h.as_slice(), m.as_slice(), &mut out[0..w]) {
-        Ok(()) => Block::front(out, w),
-        Err(_) => unreachable(),
-    }
 }

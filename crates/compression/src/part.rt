@@ -1,18 +1,21 @@
-// A part of a compression function: a block that has its width.
-ghost use Rattle.std.specs.Prelude.{◌≡◌, length};
-ghost use Rattle.base.specs.Text.{text};
+// A part of a compression function: as many bytes as its width, as a value.
+ghost use Rattle.std.specs.Prelude.{◌≡◌, length, take};
 
 use crate::compression::Compression;
-use base::block::Block;
 use std::alloc::AllocError;
 use std::marker::PhantomData;
 
 pub mod ops;
 
+// The longest width.
+const LONGEST: usize = 64;
+
+// The first bytes are the part; those behind the width do not count. The array is as long as the
+// longest width, since an array cannot take its length from F.
 pub struct Part<F: Compression> {
-    block: Block,
+    bytes: [u8; LONGEST],
     of: PhantomData<F>,
-    ghost long: { length (text block) ≡ F.width },
+    ghost long: { length (take F.width bytes) ≡ F.width },
 }
 
 // Written out, since a derive would ask that F itself can be copied.

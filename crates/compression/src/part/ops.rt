@@ -1,24 +1,21 @@
 // What parts are made from, and made into.
-ghost use Rattle.std.specs.Prelude.{◌≡◌, ◌*◌, ◌≤◌, length, take, drop};
-ghost use Rattle.base.specs.Bytes.{Xored, xor, zeros, padded, filled, digits, double};
-ghost use Rattle.base.specs.Text.{text};
+ghost use Rattle.std.specs.Prelude.{◌≡◌, ◌*◌, ◌≤◌, length, take, drop, nat_le, slice_index};
+ghost use Rattle.base.specs.Bytes.{Xored, xor, zeros, padded, filled, digits, double, shifted};
 ghost use Rattle.compression.specs.Parts.{bytes_of};
 
 use crate::compression::Compression;
-use crate::part::Part;
-use base::block::Block;
-use base::slices::xor_into;
+use crate::part::{LONGEST, Part};
+use base::slices::{fill_into, number_into, pad_into, shift_left, xor_into};
 use std::marker::PhantomData;
 use std::ops::BitXor;
 
 impl<F: Compression> Part<F> {
-    // A block that has the width.
-    fn of_block(block: Block) -> Part<F>
-        requires { length (text block) ≡ F.width }
-        ensures { bytes_of result ≡ text block }
+    // The front of an array.
+    fn front(bytes: [u8; LONGEST]) -> Part<F>
+        ensures { bytes_of result ≡ take F.width bytes }
     {
         Part {
-            block,
+            bytes,
             of: PhantomData,
         }
     }
@@ -27,7 +24,7 @@ impl<F: Compression> Part<F> {
     pub fn zeros() -> Part<F>
         ensures { bytes_of result ≡ zeros F.width }
     {
-        Part::of_block(Block::zeros(F::block_len()))
+        Part::front([0; LONGEST])
     }
 
     // A copy of as many bytes as the width.
@@ -35,7 +32,10 @@ impl<F: Compression> Part<F> {
         requires { length bytes.now ≡ F.width }
         ensures { bytes_of result ≡ bytes.now }
     {
-        Part::of_block(Block::of(bytes))
+        let n = bytes.len();
+        let mut room = [0; LONGEST];
+        room[..n].copy_from_slice(bytes);
+        Part::front(room)
     }
 
     // A copy of bytes, filled by 80 and zeros if they are fewer than the width.
@@ -43,7 +43,10 @@ impl<F: Compression> Part<F> {
         requires { length bytes.now ≤ F.width }
         ensures { bytes_of result ≡ padded F.width bytes.now }
     {
-        Part::of_block(Block::padded(bytes, F::block_len()))
+        let w = F::block_len();
+        let mut room = [0; LONGEST];
+        pad_into(&mut room[..w], bytes);
+        Part::front(room)
     }
 
     // A copy of bytes, filled by zeros.
@@ -51,7 +54,28 @@ impl<F: Compression> Part<F> {
         requires { length bytes.now ≤ F.width }
         ensures { bytes_of result ≡ filled F.width bytes.now }
     {
-        Part::of_block(Block::filled(bytes, F::block_len()))
+        let w = F::block_len();
+        let mut room = [0; LONGEST];
+        fill_into(&mut room[..w], bytes);
+        Part::front(room)
+    }
+
+    // ⟨t⟩.
+    pub fn number(t: usize) -> Part<F>
+        ensures { bytes_of result ≡ digits F.width t }
+    {
+        let w = F::block_len();
+        let mut room = [0; LONGEST];
+        number_into(&mut room[..w], t);
+        Part::front(room)
+    }
+
+    pub fn as_slice(&self) -> &[u8]
+        ensures bytes { result.now ≡ bytes_of self.now }
+        ensures long { length result.now ≡ F.width }
+    {
+        let w = F::block_len();
+        &self.bytes[..w]
     }
 
     // The two halves of a block of bytes, filled by 80 and zeros if it is short.
@@ -60,29 +84,12 @@ impl<F: Compression> Part<F> {
         ensures left { bytes_of result.0 ≡ take F.width (padded (2 * F.width) block.now) }
         ensures right { bytes_of result.1 ≡ drop F.width (padded (2 * F.width) block.now) }
     {
-        let (left, right) = Block::halves(block, F::block_len());
-        (Part::of_block(left), Part::of_block(right))
-    }
-
-    // ⟨t⟩.
-    pub fn number(t: usize) -> Part<F>
-        ensures { bytes_of result ≡ digits F.width t }
-    {
-        Part::of_block(Block::number(t, F::block_len()))
-    }
-
-    // 2·x.
-    pub fn double(self) -> Part<F>
-        ensures { bytes_of result ≡ double F.feedback (bytes_of self) }
-    {
-        Part::of_block(self.block.double(F::reduction()))
-    }
-
-    pub fn as_slice(&self) -> &[u8]
-        ensures bytes { result.now ≡ bytes_of self.now }
-        ensures long { length result.now ≡ F.width }
-    {
-        self.block.as_slice()
+        let w = F::block_len();
+        if block.len() < w {
+            return (Part::padded(block), Part::zeros());
+        }
+        let (left, right) = block.split_at(w);
+        (Part::of(left), Part::padded(right))
     }
 
     // Writes the first bytes to `out`.
@@ -90,7 +97,8 @@ impl<F: Compression> Part<F> {
         requires { length out.old ≤ F.width }
         ensures { out.new ≡ take (length out.old) (bytes_of self.now) }
     {
-        self.block.write_front(out);
+        let n = out.len();
+        out.copy_from_slice(&self.as_slice()[0..n]);
     }
 
     // Writes `src` ⊕ the first bytes to `dst`.
@@ -103,12 +111,32 @@ impl<F: Compression> Part<F> {
         xor_into(dst, self.as_slice());
     }
 
-    // As a block alone.
-    pub fn block(self) -> Block
-        ensures block { text result ≡ bytes_of self }
-        ensures long { length (text result) ≡ F.width }
+    // Whether the top bit is 1.
+    fn top_bit(self) -> bool
+        ensures { result ≡ nat_le 128 (slice_index (bytes_of self) 0) }
     {
-        self.block
+        self.bytes[0] >= 128
+    }
+
+    // All bits one place to the left.
+    fn shifted(self) -> Part<F>
+        ensures { bytes_of result ≡ shifted (bytes_of self) }
+    {
+        let w = F::block_len();
+        let mut bytes = self.bytes;
+        shift_left(&mut bytes[..w]);
+        Part::front(bytes)
+    }
+
+    // 2·x.
+    pub fn double(self) -> Part<F>
+        ensures { bytes_of result ≡ double F.feedback (bytes_of self) }
+    {
+        let shifted = self.shifted();
+        if !self.top_bit() {
+            return shifted;
+        }
+        shifted ^ Part::number(usize::from(F::reduction()))
     }
 
     // F(h, m).
@@ -117,9 +145,9 @@ impl<F: Compression> Part<F> {
         ensures value { bytes_of result ≡ F.value f.old (bytes_of h) (bytes_of m) }
     {
         let w = F::block_len();
-        let mut out = [0; 64];
-        match f.compress(h.as_slice(), m.as_slice(), &mut out[0..w]) {
-            Ok(()) => Part::of_block(Block::front(out, w)),
+        let mut out = [0; LONGEST];
+        match f.compress(h.as_slice(), m.as_slice(), &mut out[..w]) {
+            Ok(()) => Part::front(out),
             Err(_) => unreachable(),
         }
     }
@@ -132,6 +160,9 @@ impl<F: Compression> BitXor<Part<F>> for Part<F> {
     ghost bitxor_gives = { λ a b r. Xored (bytes_of a) (bytes_of b) (bytes_of r) };
 
     fn bitxor(self, rhs: Part<F>) -> Part<F> {
-        Part::of_block(self.block ^ rhs.block)
+        let w = F::block_len();
+        let mut room = [0; LONGEST];
+        rhs.xor_to(self.as_slice(), &mut room[..w]);
+        Part::front(room)
     }
 }
