@@ -101,15 +101,15 @@ impl<F: Compression> Mode for Omd<F> {
         End::Back
     }
 
+    #[tactic(auto, unfolding(crate::specs::Omd::sealed))]
     fn encrypt(&mut self, inputs: Inputs, page: &[u8], body: &mut [u8]) {
-        let n = page.len();
-        let end = body.len();
-        let tag = self.run(Direction::Seal, inputs, page, &mut body[0..n]);
-        tag.write_front(&mut body[n..end]);
+        let (cipher, tag) = body.split_at_mut(page.len());
+        self.run(Direction::Seal, inputs, page, cipher)
+            .write_front(tag);
     }
 
     fn recover(&mut self, inputs: Inputs, body: &[u8], page: &mut [u8]) -> Block {
         let n = page.len();
-        self.run(Direction::Open, inputs, &body[0..n], page)
+        self.run(Direction::Open, inputs, &body[..n], page)
     }
 }
