@@ -4,15 +4,12 @@ use Rattle.scheme.specs.declared.limits.End.{End}
 use Rattle.scheme.specs.Meaning.{Meaning, tag_of, tag_part}
 use Rattle.scheme.specs.Recovery.{Recovered}
 
--- `found` is the body's tag, and it was compared with the front of `block`
-module _ (m : Meaning) (n a body page block found : List ℕ) (same : Bool) (e : End) (t : ℕ)
-    (r : Recovered m n a body page block) (f : found ≡ tag_part e t body) (l : length found ≡ t) (ee : e ≡ m.end) (et : t ≡ m.limits.tag)
-    (d : Decides same (take (length found) block ≡ found)) where
+-- `found` is the body's tag, and it was compared with that of the page
+module _ (m : Meaning) (n a body page tag found : List ℕ) (same : Bool) (e : End) (t : ℕ)
+    (r : Recovered m n a body page tag) (f : found ≡ tag_part e t body) (ee : e ≡ m.end) (et : t ≡ m.limits.tag)
+    (d : Decides same (tag ≡ found)) where
   found_is : found ≡ tag_of m body
   found_is = f ∙ ap₂ (λ x y. tag_part x y body) ee et
 
-  front_is : take (length found) block ≡ take m.limits.tag block
-  front_is = ap (λ k. take k block) (l ∙ et)
-
   pub agreed : same ≡ true → (final zeroed : List ℕ) → final ≡ cond same page zeroed → m.E n a final ≡ body
-  agreed true-is final zeroed g = ap (m.E n a) (g ∙ ap (λ b. cond b page zeroed) true-is) ∙ r.tells (sym front_is ∙ d.0 true-is ∙ found_is)
+  agreed true-is final zeroed g = ap (m.E n a) (g ∙ ap (λ b. cond b page zeroed) true-is) ∙ r.tells (d.0 true-is ∙ found_is)

@@ -8,7 +8,10 @@ use crate::inputs::Inputs;
 use crate::limits::Fault;
 use crate::mode::Mode;
 use base::refusal::Cause;
-use base::slices::clear;
+use base::slices::{agree, clear};
+
+// The longest tag of any mode.
+const LONGEST_TAG: usize = 64;
 
 // An opened page whose tag has not agreed yet. When the guard ends, by whichever way out, the page
 // is zeroed, unless the comparison of the tags released it.
@@ -50,8 +53,10 @@ pub(crate) fn open_into<M: Mode>(
         page,
         released: false,
     };
-    let tag = m.recover(inputs, body, guard.page);
-    guard.released = tag.begins_with(M::tag_end().tag_part(body, len));
+    let mut room = [0; LONGEST_TAG];
+    let tag = &mut room[..len];
+    m.recover(inputs, body, guard.page, tag);
+    guard.released = agree(tag, M::tag_end().tag_part(body, len));
     if !guard.released {
         return Err(Fault(Cause::NotGenuine, 0));
     }

@@ -1,6 +1,5 @@
 // What a mode gives, and how any mode is a scheme.
 ghost use Rattle.std.specs.Prelude.{◌≡◌, ℕ, ◌+◌, ◌≤◌, List, length, ◌==◌};
-ghost use Rattle.base.specs.Text.{text};
 ghost use Rattle.scheme.specs.Meaning.{Lawful, mode};
 ghost use Rattle.scheme.specs.Recovery.{Recovered};
 ghost use Rattle.scheme.specs.declared.limits.End.{End};
@@ -9,7 +8,6 @@ use crate::guard::open_into;
 use crate::inputs::Inputs;
 use crate::limits::{End, Limits, limits_of, may_open, may_seal};
 use crate::scheme::Scheme;
-use base::block::Block;
 use base::refusal::Refusal;
 
 // The two ways of a mode, on inputs within the limits.
@@ -38,13 +36,14 @@ pub trait Mode {
         ensures kept { mode (tag self.new) end (E self.new) ≡ mode (tag self.old) end (E self.old) }
         ensures body { body.new ≡ E self.old inputs.entry.nonce.now inputs.entry.ad.now page.now };
 
-    // Writes to `page` the only page that can have given `body`, and answers the block whose first
-    // bytes are that page's tag. The page is genuine if the body has this tag.
-    fn recover(&mut self, inputs: Inputs, body: &[u8], page: &mut [u8]) -> Block
+    // Writes to `page` the only page that can have given `body`, and to `out` that page's tag. The
+    // page is genuine if the body has this tag.
+    fn recover(&mut self, inputs: Inputs, body: &[u8], page: &mut [u8], out: &mut [u8])
         requires page { length page.old ≤ 4096 }
         requires body { length body.now ≡ length page.old + tag self.old }
+        requires out { length out.old ≡ tag self.old }
         ensures kept { mode (tag self.new) end (E self.new) ≡ mode (tag self.old) end (E self.old) }
-        ensures recovered { Recovered (mode (tag self.old) end (E self.old)) inputs.entry.nonce.now inputs.entry.ad.now body.now page.new (text result) };
+        ensures recovered { Recovered (mode (tag self.old) end (E self.old)) inputs.entry.nonce.now inputs.entry.ad.now body.now page.new out.new };
 
     ghost lawful: { (s : Self) → Lawful (mode (tag s) end (E s)) };
 }

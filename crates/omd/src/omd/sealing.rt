@@ -1,7 +1,6 @@
 // Set-up of OMD, and OMD as a mode.
 ghost use Rattle.std.specs.Prelude.{◌≡◌, ◌≤◌, length, is_ok, if◌then◌else◌};
 ghost use Rattle.base.specs.Bytes.{xor};
-ghost use Rattle.base.specs.Text.{text};
 ghost use Rattle.compression.specs.Parts.{bytes_of};
 ghost use Rattle.frames.specs.Directions.{page_of, cipher_of};
 ghost use Rattle.frames.specs.Offsets.{Filled, star};
@@ -14,7 +13,6 @@ ghost use Rattle.omd.specs.Laws.{sealed_same, sealed_length};
 
 use crate::omd::Omd;
 use crate::parts::{begin, run_page, sum_ad};
-use base::block::Block;
 use base::refusal::Refusal;
 use compression::compression::Compression;
 use compression::part::Part;
@@ -107,15 +105,16 @@ impl<F: Compression> Mode for Omd<F> {
         End::Back
     }
 
+    #[tactic(auto, unfolding(crate::specs::Omd::sealed))]
     fn encrypt(&mut self, inputs: Inputs, page: &[u8], body: &mut [u8]) {
-        let n = page.len();
-        let end = body.len();
-        let tag = self.run(Direction::Seal, inputs, page, &mut body[0..n]);
-        tag.write_front(&mut body[n..end]);
+        let (cipher, tag) = body.split_at_mut(page.len());
+        self.run(Direction::Seal, inputs, page, cipher)
+            .write_front(tag);
     }
 
-    fn recover(&mut self, inputs: Inputs, body: &[u8], page: &mut [u8]) -> Block {
+    fn recover(&mut self, inputs: Inputs, body: &[u8], page: &mut [u8], out: &mut [u8]) {
         let n = page.len();
-        self.run(Direction::Open, inputs, &body[0..n], page).block()
+        self.run(Direction::Open, inputs, &body[..n], page)
+            .write_front(out);
     }
 }

@@ -129,22 +129,20 @@ impl<F: Compression, K: Chaining> Mode for TwoPass<F, K> {
         End::Front
     }
 
+    #[tactic(auto, unfolding(crate::specs::TwoPass::body))]
     fn encrypt(&mut self, inputs: Inputs, page: &[u8], body: &mut [u8]) {
-        let len = self.tag_len();
-        let end = body.len();
+        let (tag, cipher) = body.split_at_mut(self.tag_len());
         let d = self.prepare(inputs);
-        let tag = self.tag_block(d, inputs, page);
-        tag.write_front(&mut body[0..len]);
-        let v = Block::filled(&tag.as_slice()[0..len], F::block_len());
-        self.encipher(Direction::Seal, d, v, page, &mut body[len..end]);
+        self.tag_block(d, inputs, page).write_front(tag);
+        let v = Block::filled(tag, F::block_len());
+        self.encipher(Direction::Seal, d, v, page, cipher);
     }
 
     fn recover(&mut self, inputs: Inputs, body: &[u8], page: &mut [u8]) -> Block {
-        let len = self.tag_len();
-        let end = body.len();
+        let (tag, cipher) = body.split_at(self.tag_len());
         let d = self.prepare(inputs);
-        let v = Block::filled(&body[0..len], F::block_len());
-        self.encipher(Direction::Open, d, v, &body[len..end], page);
+        let v = Block::filled(tag, F::block_len());
+        self.encipher(Direction::Open, d, v, cipher, page);
         self.tag_block(d, inputs, page)
     }
 }

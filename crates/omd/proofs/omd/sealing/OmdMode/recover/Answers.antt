@@ -1,4 +1,5 @@
-use Rattle.std.proofs.Common.{length, arith}
+use Rattle.std.proofs.Common.{◌≡◌, length, take, sym, ap, ◌∙◌, arith}
+use Rattle.base.proofs.Parts.{from_zero}
 use Rattle.compression.specs.Parts.{bytes_of}
 use Rattle.omd.specs.Laws.{tells, only}
 use Rattle.omd.proofs.omd.sealing.OmdMode.recover.Goals as goal
@@ -11,7 +12,10 @@ returns-clause-recovered g c =
     let s = c.args.self.now in
     let n = c.args.inputs.nonce.now in
     let a = c.args.inputs.ad.now in
+    let k = length c.args.page.now in
+    let cipher = ap (λ i. take i c.args.body.now) (from_zero k) ∙ c.run.ensures.cipher in
+    let tag : c.write_front.new.out ≡ take s.tag_len (bytes_of c.run.result) = c.write_front.ensures ∙ ap (λ i. take i (bytes_of c.run.result)) c.requires.out in
     record {
-      tells = tells m.width m.feedback (omega arith) (m.value s.f) (q.sized s.f) s.tag_len s.high n a (length c.args.page.now) c.args.body.now c.run.new.dst (bytes_of c.run.result) (omega arith) c.requires.body c.run.ensures.cipher c.run.ensures.tag;
-      only = only m.width m.feedback (omega arith) (m.value s.f) (q.sized s.f) s.tag_len s.high n a (length c.args.page.now) c.args.body.now c.run.new.dst (bytes_of c.run.result) (omega arith) c.requires.body c.run.ensures.cipher c.run.ensures.tag;
+      tells = λ e. tells m.width m.feedback (omega arith) (m.value s.f) (q.sized s.f) s.tag_len s.high n a k c.args.body.now c.run.new.dst (bytes_of c.run.result) (omega arith) c.requires.body cipher c.run.ensures.tag (sym tag ∙ e);
+      only = λ p e. tag ∙ only m.width m.feedback (omega arith) (m.value s.f) (q.sized s.f) s.tag_len s.high n a k c.args.body.now c.run.new.dst (bytes_of c.run.result) (omega arith) c.requires.body cipher c.run.ensures.tag p e;
     }
