@@ -6,4 +6,5 @@
 pub mod offsets;
 pub mod pass;
 pub mod rule;
+pub mod setup;
 pub mod sums;

@@ -11,4 +11,4 @@ omd w fb F tau = mode tau Back (sealed w fb F tau)
 
 -- the meaning of s, where `value` is that of its compression function
 abbrev pub means : {F : Type 0} {g : _} → (w fb : ℕ) → (F → List ℕ → List ℕ → List ℕ) → Omd F g → Meaning
-means w fb value s = omd w fb (value s.f) s.tag_len
+means w fb value s = omd w fb (value s.setup.f) s.setup.tag_len

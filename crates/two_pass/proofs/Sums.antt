@@ -1,8 +1,8 @@
 -- Kinds, and the sums over associated data and page.
-use Rattle.std.proofs.Common.{◌≡◌, ℕ, suc, ◌+◌, ◌-◌, ◌*◌, ◌/◌, ◌<◌, ◌≤◌, cond, Bool, true, false, ltb, List, [], ◌∷◌, length, take, drop, sym, refl, ap, ◌∙◌, ap₂, not-suc-le-zero, add-one, arith}
+use Rattle.std.proofs.Common.{◌≡◌, ℕ, suc, ◌+◌, ◌*◌, ◌<◌, ◌≤◌, cond, Bool, true, false, ltb, List, [], ◌∷◌, length, sym, refl, ap, ◌∙◌, ap₂, not-suc-le-zero, add-one, arith}
 use lib.Count.{count_trailing_zeros}
 use Rattle.std.proofs.lemmas.List.{nil_from_length}
-use Rattle.base.specs.Bytes.{xor, zeros, padded, double, doubled, cut}
+use Rattle.base.specs.Bytes.{xor, zeros, padded, doubled, cut}
 use Rattle.compression.specs.Parts.{bytes_of}
 use Rattle.compression.specs.declared.part.Part.{Part}
 use Rattle.base.proofs.Cuts.{cut-nil}
@@ -15,7 +15,7 @@ use Rattle.frames.specs.declared.offsets.OffsetTable.{OffsetTable}
 use Rattle.frames.specs.declared.pass.Pass.{Pass}
 use Rattle.frames.proofs.Laws.{delta_start, length-delta}
 use Rattle.frames.proofs.Tallies.{empty_tally, summed}
-use Rattle.two_pass.specs.TwoPass.{add_odd, times, page_blocks, entry, mask, ad_sum, tag_block}
+use Rattle.two_pass.specs.TwoPass.{times, page_blocks, entry, mask, ad_sum, tag_block}
 use Rattle.two_pass.specs.Kinds.{ad_kinds, number_of, page_kinds}
 use Rattle.two_pass.specs.Sums.{Summed}
 use Rattle.two_pass.specs.declared.kinds.Kind.{Kind}

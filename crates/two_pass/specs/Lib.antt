@@ -2,4 +2,5 @@ pub mod TwoPass
 pub mod Feeds
 pub mod Kinds
 pub mod Sums
+pub mod Means
 pub mod Laws

@@ -3,7 +3,6 @@ ghost use Rattle.std.specs.Prelude.{◌≡◌, ◌≤◌, length, is_ok, if◌th
 ghost use Rattle.base.specs.Bytes.{xor};
 ghost use Rattle.compression.specs.Parts.{bytes_of};
 ghost use Rattle.frames.specs.Directions.{page_of, cipher_of};
-ghost use Rattle.frames.specs.Offsets.{Filled, star};
 ghost use Rattle.scheme.specs.Answers.{tag_answer};
 ghost use Rattle.scheme.specs.declared.limits.End.TheVariants.{Back};
 ghost use Rattle.omd.specs.Omd.{ad_tag, cipher, page_tag, sealed};
@@ -16,10 +15,10 @@ use crate::parts::{begin, run_page, sum_ad};
 use base::refusal::Refusal;
 use compression::compression::Compression;
 use compression::part::Part;
-use frames::offsets::OffsetTable;
 use frames::rule::Direction;
+use frames::setup::Setup;
 use scheme::inputs::Inputs;
-use scheme::limits::{End, check_tag_len};
+use scheme::limits::End;
 use scheme::mode::Mode;
 
 impl<F: Compression> Omd<F> {
@@ -28,34 +27,16 @@ impl<F: Compression> Omd<F> {
         ensures { means F.width F.feedback F.value result ≡ omd F.width F.feedback (F.value f) 16 }
     {
         Omd {
-            f,
-            tag_len: 16,
-            table: None,
+            setup: Setup::new(f),
         }
     }
 
     // Sets the tag's length, or refuses one outside 4 to the width; the old one then stays.
     pub fn set_tag_len(&mut self, n: usize) -> Result<(), Refusal>
         ensures answer { result ≡ tag_answer F.width n }
-        ensures means { means F.width F.feedback F.value self.new ≡ (if is_ok result then omd F.width F.feedback (F.value self.old.f) n else means F.width F.feedback F.value self.old) }
+        ensures means { means F.width F.feedback F.value self.new ≡ (if is_ok result then omd F.width F.feedback (F.value self.old.setup.f) n else means F.width F.feedback F.value self.old) }
     {
-        check_tag_len(F::block_len(), n)?;
-        self.tag_len = n;
-        Ok(())
-    }
-
-    // The table of offsets: L[0] is 4·L*.
-    fn table(&mut self) -> OffsetTable<F>
-        ensures kept { F.value self.new.f ≡ F.value self.old.f }
-        ensures same { self.new.tag_len ≡ self.old.tag_len }
-        ensures filled { Filled F.width F.feedback 2 (star F.width (F.value self.old.f)) result }
-    {
-        if let Some(table) = self.table {
-            return table;
-        }
-        let table = OffsetTable::filled(&mut self.f, 2);
-        self.table = Some(table);
-        table
+        self.setup.set_tag_len(n)
     }
 
     // The page in `src` to its ciphertext in `dst`, or back; then the part whose first bytes are
@@ -63,42 +44,44 @@ impl<F: Compression> Omd<F> {
     fn run(&mut self, direction: Direction, inputs: Inputs, src: &[u8], dst: &mut [u8]) -> Part<F>
         requires src { length src.now ≤ 4096 }
         requires dst { length dst.old ≡ length src.now }
-        ensures kept { F.value self.new.f ≡ F.value self.old.f }
-        ensures same { self.new.tag_len ≡ self.old.tag_len }
-        ensures cipher { cipher_of direction src.now dst.new ≡ cipher F.width F.feedback (F.value self.old.f) self.old.tag_len inputs.entry.nonce.now (page_of direction src.now dst.new) }
-        ensures tag { bytes_of result ≡ xor (page_tag F.width F.feedback (F.value self.old.f) self.old.tag_len inputs.entry.nonce.now (page_of direction src.now dst.new)) (ad_tag F.width F.feedback (F.value self.old.f) inputs.entry.ad.now) }
+        ensures kept { F.value self.new.setup.f ≡ F.value self.old.setup.f }
+        ensures same { self.new.setup.tag_len ≡ self.old.setup.tag_len }
+        ensures cipher { cipher_of direction src.now dst.new ≡ cipher F.width F.feedback (F.value self.old.setup.f) self.old.setup.tag_len inputs.entry.nonce.now (page_of direction src.now dst.new) }
+        ensures tag { bytes_of result ≡ xor (page_tag F.width F.feedback (F.value self.old.setup.f) self.old.setup.tag_len inputs.entry.nonce.now (page_of direction src.now dst.new)) (ad_tag F.width F.feedback (F.value self.old.setup.f) inputs.entry.ad.now) }
     {
-        let table = self.table();
-        let sum = sum_ad(&mut self.f, &table, inputs.ad);
-        let start = begin(&mut self.f, &table, self.tag_len, inputs.nonce);
-        run_page(&mut self.f, &table, direction, start, src, dst) ^ sum
+        let tag_len = self.setup.tag_len();
+        let table = self.setup.table();
+        let f = &mut self.setup.f;
+        let sum = sum_ad(f, &table, inputs.ad);
+        let start = begin(f, &table, tag_len, inputs.nonce);
+        run_page(f, &table, direction, start, src, dst) ^ sum
     }
 }
 
 impl<F: Compression> Mode for Omd<F> {
-    ghost tag = { λ s. s.tag_len };
+    ghost tag = { λ s. s.setup.tag_len };
 
     ghost end = { Back };
 
-    ghost E = { λ s. sealed F.width F.feedback (F.value s.f) s.tag_len };
+    ghost E = { λ s. sealed F.width F.feedback (F.value s.setup.f) s.setup.tag_len };
 
     ghost lawful = { λ s.
         let m = F.Compression in
         let least = m.wide.0 in
         let most = m.wide.1 in
-        let low = s.low in
-        let high = s.high in
+        let low = s.setup.low in
+        let high = s.setup.high in
         record {
           tag_low = omega arith;
           tag_high = omega arith;
           ad_high = omega arith;
           page_high = omega arith;
-          longer = λ n a p t h. sealed_length m.width m.feedback (omega arith) (m.value s.f) (m.sized s.f) s.tag_len (omega arith) n a p;
-          one_page = λ n a p q t h i e. sealed_same m.width m.feedback (omega arith) (m.value s.f) (m.sized s.f) s.tag_len (omega arith) n a p q e;
+          longer = λ n a p t h. sealed_length m.width m.feedback (omega arith) (m.value s.setup.f) (m.sized s.setup.f) s.setup.tag_len (omega arith) n a p;
+          one_page = λ n a p q t h i e. sealed_same m.width m.feedback (omega arith) (m.value s.setup.f) (m.sized s.setup.f) s.setup.tag_len (omega arith) n a p q e;
         } };
 
     fn tag_len(&self) -> usize {
-        self.tag_len
+        self.setup.tag_len()
     }
 
     fn tag_end() -> End {

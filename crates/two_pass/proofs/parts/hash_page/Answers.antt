@@ -1,4 +1,3 @@
-use Rattle.std.proofs.Common.{◌∙◌}
 use Rattle.compression.specs.Parts.{bytes_of}
 use Rattle.two_pass.proofs.Sums.{tag_is}
 use Rattle.two_pass.proofs.parts.hash_page.Goals as goal

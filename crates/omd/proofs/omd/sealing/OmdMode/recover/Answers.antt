@@ -1,4 +1,5 @@
 use Rattle.std.proofs.Common.{◌≡◌, length, take, sym, ap, ◌∙◌, arith}
+use Rattle.std.proofs.lemmas.List.{take-take}
 use Rattle.base.proofs.Parts.{from_zero}
 use Rattle.compression.specs.Parts.{bytes_of}
 use Rattle.omd.specs.Laws.{tells, only}
@@ -14,8 +15,10 @@ returns-clause-recovered g c =
     let a = c.args.inputs.ad.now in
     let k = length c.args.page.now in
     let cipher = ap (λ i. take i c.args.body.now) (from_zero k) ∙ c.run.ensures.cipher in
-    let tag : c.write_front.new.out ≡ take s.tag_len (bytes_of c.run.result) = c.write_front.ensures ∙ ap (λ i. take i (bytes_of c.run.result)) c.requires.out in
+    let t = s.setup.tag_len in
+    let block = bytes_of c.run.result in
+    let tag : take t c.write_front.new.out ≡ take t block = ap (take t) (c.write_front.ensures ∙ ap (λ i. take i block) c.requires.out) ∙ take-take t t block (omega arith) in
     record {
-      tells = λ e. tells m.width m.feedback (omega arith) (m.value s.f) (q.sized s.f) s.tag_len s.high n a k c.args.body.now c.run.new.dst (bytes_of c.run.result) (omega arith) c.requires.body cipher c.run.ensures.tag (sym tag ∙ e);
-      only = λ p e. tag ∙ only m.width m.feedback (omega arith) (m.value s.f) (q.sized s.f) s.tag_len s.high n a k c.args.body.now c.run.new.dst (bytes_of c.run.result) (omega arith) c.requires.body cipher c.run.ensures.tag p e;
+      tells = λ e. tells m.width m.feedback (omega arith) (m.value s.setup.f) (q.sized s.setup.f) s.setup.tag_len s.setup.high n a k c.args.body.now c.run.new.dst (bytes_of c.run.result) (omega arith) c.requires.body cipher c.run.ensures.tag (sym tag ∙ e);
+      only = λ p e. tag ∙ only m.width m.feedback (omega arith) (m.value s.setup.f) (q.sized s.setup.f) s.setup.tag_len s.setup.high n a k c.args.body.now c.run.new.dst (bytes_of c.run.result) (omega arith) c.requires.body cipher c.run.ensures.tag p e;
     }
