@@ -14,7 +14,7 @@ pub mod ops;
 #[derive(Drop)]
 pub struct Setup<F: Compression, const START: usize> {
     pub f: F,
-    tag_len: usize,
+    pub tag_len: usize,
     table: Option<OffsetTable<F>>,
     ghost low: { 4 ≤ tag_len },
     ghost high: { tag_len ≤ F.width },

@@ -33,12 +33,6 @@ impl<F: Compression, const START: usize> Setup<F, START> {
         Ok(())
     }
 
-    pub fn tag_len(&self) -> usize
-        ensures { result ≡ self.now.tag_len }
-    {
-        self.tag_len
-    }
-
     pub fn table(&mut self) -> OffsetTable<F>
         ensures kept { F.value self.new.f ≡ F.value self.old.f }
         ensures same { self.new.tag_len ≡ self.old.tag_len }

@@ -49,7 +49,7 @@ impl<F: Compression> Omd<F> {
         ensures cipher { cipher_of direction src.now dst.new ≡ cipher F.width F.feedback (F.value self.old.setup.f) self.old.setup.tag_len inputs.entry.nonce.now (page_of direction src.now dst.new) }
         ensures tag { bytes_of result ≡ xor (page_tag F.width F.feedback (F.value self.old.setup.f) self.old.setup.tag_len inputs.entry.nonce.now (page_of direction src.now dst.new)) (ad_tag F.width F.feedback (F.value self.old.setup.f) inputs.entry.ad.now) }
     {
-        let tag_len = self.setup.tag_len();
+        let tag_len = self.setup.tag_len;
         let table = self.setup.table();
         let f = &mut self.setup.f;
         let sum = sum_ad(f, &table, inputs.ad);
@@ -81,7 +81,7 @@ impl<F: Compression> Mode for Omd<F> {
         } };
 
     fn tag_len(&self) -> usize {
-        self.setup.tag_len()
+        self.setup.tag_len
     }
 
     fn tag_end() -> End {

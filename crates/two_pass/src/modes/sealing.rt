@@ -80,7 +80,7 @@ impl<F: Compression, K: Chaining> TwoPass<F, K> {
         ensures same { self.new.setup.tag_len ≡ self.old.setup.tag_len }
         ensures cipher { cipher_of direction src.now dst.new ≡ cipher F.width F.feedback (F.value self.old.setup.f) (bytes_of d) K.keystream self.old.setup.tag_len (bytes_of v) (page_of direction src.now dst.new) }
     {
-        let bits = tag_bits(self.setup.tag_len());
+        let bits = tag_bits(self.setup.tag_len);
         let f = &mut self.setup.f;
         let start = first_block(f, table, d, v, bits);
         let rule = Rule {
@@ -117,7 +117,7 @@ impl<F: Compression, K: Chaining> Mode for TwoPass<F, K> {
         } };
 
     fn tag_len(&self) -> usize {
-        self.setup.tag_len()
+        self.setup.tag_len
     }
 
     fn tag_end() -> End {
@@ -126,7 +126,7 @@ impl<F: Compression, K: Chaining> Mode for TwoPass<F, K> {
 
     #[tactic(auto, unfolding(crate::specs::TwoPass::body))]
     fn encrypt(&mut self, inputs: Inputs, page: &[u8], body: &mut [u8]) {
-        let (tag, cipher) = body.split_at_mut(self.setup.tag_len());
+        let (tag, cipher) = body.split_at_mut(self.setup.tag_len);
         let table = self.setup.table();
         let d = begin(&mut self.setup.f, inputs.nonce);
         self.tag_block(&table, d, inputs, page).write_front(tag);
@@ -134,7 +134,7 @@ impl<F: Compression, K: Chaining> Mode for TwoPass<F, K> {
     }
 
     fn recover(&mut self, inputs: Inputs, body: &[u8], page: &mut [u8], out: &mut [u8]) {
-        let (tag, cipher) = body.split_at(self.setup.tag_len());
+        let (tag, cipher) = body.split_at(self.setup.tag_len);
         let table = self.setup.table();
         let d = begin(&mut self.setup.f, inputs.nonce);
         self.encipher(&table, Direction::Open, d, Part::filled(tag), cipher, page);
