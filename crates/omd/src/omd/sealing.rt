@@ -3,7 +3,6 @@ ghost use Rattle.std.specs.Prelude.{◌≡◌, ◌≤◌, length, is_ok, if◌th
 ghost use Rattle.base.specs.Bytes.{xor};
 ghost use Rattle.base.specs.Text.{text};
 ghost use Rattle.frames.specs.Directions.{page_of, cipher_of};
-ghost use Rattle.frames.specs.Offsets.{Filled, star};
 ghost use Rattle.scheme.specs.Answers.{tag_answer};
 ghost use Rattle.scheme.specs.declared.limits.End.TheVariants.{Back};
 ghost use Rattle.omd.specs.Omd.{ad_tag, cipher, page_tag, sealed};
@@ -44,15 +43,6 @@ impl<F: Compression> Omd<F> {
         Ok(())
     }
 
-    // Fills the table anew: L[0] is 4·L*.
-    fn refill(&mut self)
-        ensures kept { F.value self.new.f ≡ F.value self.old.f }
-        ensures same { self.new.tag_len ≡ self.old.tag_len }
-        ensures filled { Filled F.width F.feedback 2 (star F.width (F.value self.old.f)) self.new.table }
-    {
-        self.table = OffsetTable::filled(&mut self.f, 2);
-    }
-
     // The page in `src` to its ciphertext in `dst`, or back; then the block whose first bytes are
     // the tag.
     fn run(&mut self, direction: Direction, inputs: Inputs, src: &[u8], dst: &mut [u8]) -> Block
@@ -65,7 +55,8 @@ impl<F: Compression> Omd<F> {
         ensures long { length (text result) ≡ F.width }
     {
         let tag_len = self.tag_len();
-        self.refill();
+        // L[0] is 4·L*.
+        self.table = OffsetTable::filled(&mut self.f, 2);
         let sum = sum_ad(&mut self.f, &self.table, inputs.ad);
         let start = begin(&mut self.f, &self.table, tag_len, inputs.nonce);
         run_page(&mut self.f, &self.table, direction, start, src, dst) ^ sum
