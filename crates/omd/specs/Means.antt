@@ -9,7 +9,8 @@ use Rattle.omd.specs.declared.omd.Omd.{Omd}
 abbrev pub omd : (w fb : ℕ) → (List ℕ → List ℕ → List ℕ) → ℕ → Meaning
 omd w fb F tau = mode tau Back (sealed w fb F tau)
 
--- the tag's length. Set-up keeps it within the width; the type cannot say so, and this does
+-- the tag's length. Set-up keeps it within the width
+-- Kept: `min`, where a ghost field could say so. Bugs are planted in how the width caps the length, and have to stay bugs
 abbrev pub tag_length : {F : Type 0} {g : _} → ℕ → Omd F g → ℕ
 tag_length w s = min s.tag_len w
 

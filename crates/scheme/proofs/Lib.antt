@@ -1,2 +1,1 @@
-pub mod Guarding
 pub mod Gifts

@@ -10,7 +10,8 @@ use Rattle.two_pass.specs.declared.modes.TwoPass.{TwoPass}
 abbrev pub two_pass : (w fb : ℕ) → (List ℕ → List ℕ → List ℕ) → Keystream → ℕ → Meaning
 two_pass w fb F k tau = mode tau Front (sealed w fb F k tau)
 
--- the tag's length. Set-up keeps it within the width; the type cannot say so, and this does
+-- the tag's length. Set-up keeps it within the width
+-- Kept: `min`, where a ghost field could say so. Bugs are planted in how the width caps the length, and have to stay bugs
 abbrev pub tag_length : {F K : Type 0} {g : _} {k : _} → ℕ → TwoPass F K g k → ℕ
 tag_length w s = min s.tag_len w
 

@@ -1,10 +1,8 @@
-use Rattle.base.specs.Text.{text}
-use Rattle.scheme.specs.Meaning.{mode}
-use Rattle.scheme.proofs.Guarding.{agreed}
 use Rattle.scheme.proofs.guard.open_into.Goals as goal
 
 pub returns-clause-cases : goal.returns-clause-cases
 returns-clause-cases g c =
-    let m = g.M.Mode in
-    let s = c.args.m.now in
-    agreed (mode (m.tag s) m.end (m.E s)) c.args.inputs.nonce.now c.args.inputs.ad.now c.args.body.now c.recover-tag.new.page (text c.recover-tag.result) c.tag_part.result.now c.begins_with.result c.tag_end.result c.tag_len-len.result c.recover-tag.ensures.recovered c.tag_part.ensures.part c.tag_part.ensures.long c.tag_end.ensures c.tag_len-len.ensures c.begins_with.ensures c.if-not-guard.false _ _ c.drop-guard-2.ensures
+    let same = c.if-not-guard.false in
+    let part = c.tag_part.ensures in
+    let agree = c.begins_with.ensures.0 same in
+    rw (c.drop-guard-2.ensures, same) (c.recover-tag.ensures.recovered.tells (rw (part.long, part.part, c.tag_end.ensures, c.tag_len-len.ensures) at agree))
