@@ -1,34 +1,13 @@
 -- A scheme that hands on to the scheme below, with other associated data and a limit of its own.
-use Rattle.std.specs.Prelude.{◌≡◌, ℕ, ◌≤◌, Bool, true, false, cond, ltb, List, length, take, IfErr, Some, None, Ok, Err, Option, Result, ◌==◌, nat_lt, refl}
-use Rattle.std.proofs.Common.{sym, ap, subst, ◌∙◌}
+use Rattle.std.specs.Prelude.{◌≡◌, ℕ, ◌≤◌, Bool, true, false, cond, ltb, List, length, take, IfErr, Some, None, Ok, Err, Option, Result, ◌==◌, refl}
+use Rattle.std.proofs.Common.{sym, ap, subst, ◌∙◌, arith}
 use Rattle.std.proofs.lemmas.Bool.{le-ltb}
+use Rattle.std.proofs.lemmas.Grind.{common_steps}
 use Rattle.base.specs.Refusals.{number_of}
 use Rattle.base.specs.declared.refusal.Cause.{Cause}
-use Rattle.base.specs.declared.refusal.Cause.TheVariants.{NonceLength, PageTooLong, BodyTooShort, OutputTooShort}
 use Rattle.base.specs.declared.refusal.Refusal.{Refusal}
-use Rattle.scheme.specs.Meaning.{Meaning, Lawful, Page, Takes, body_length, page_length}
-use Rattle.scheme.specs.Answers.{Fault, Opened, Sealed, Shut, open_fault, said, seal_fault}
-
--- no fault of too much associated data
-abbrev Other : Option Fault → Type 0
-Other (Some fault) = (number_of fault.0 == 4) ≡ false
-Other None = Unit {0}
-
--- the faults in sealing and in opening behind the test of the associated data
-seal_others : (x y z w : Bool) (n p k : ℕ) → Other (cond x (Some (NonceLength, n)) (cond y (Some (NonceLength, n)) (cond z (Some (PageTooLong, p)) (cond w (Some (OutputTooShort, k)) None))))
-seal_others true y z w n p k = refl
-seal_others false true z w n p k = refl
-seal_others false false true w n p k = refl
-seal_others false false false true n p k = refl
-seal_others false false false false n p k = tt
-
-open_others : (x y v z w : Bool) (n b k : ℕ) → Other (cond x (Some (NonceLength, n)) (cond y (Some (NonceLength, n)) (cond v (Some (BodyTooShort, b)) (cond z (Some (PageTooLong, b)) (cond w (Some (OutputTooShort, k)) None)))))
-open_others true y v z w n b k = refl
-open_others false true v z w n b k = refl
-open_others false false true z w n b k = refl
-open_others false false false true w n b k = refl
-open_others false false false false true n b k = refl
-open_others false false false false false n b k = tt
+use Rattle.scheme.specs.Meaning.{Meaning, Lawful, Page, Takes}
+use Rattle.scheme.specs.Answers.{Fault, Opened, Sealed, Shut, open_fault, seal_fault}
 
 -- m, given f a in the place of a, which has at most `longest` bytes
 abbrev pub handing : ℕ → (List ℕ → List ℕ) → Meaning → Meaning
@@ -101,23 +80,14 @@ module _ (longest : ℕ) (f : List ℕ → List ℕ) (m : Meaning) (within : (a 
 
     -- too much associated data is never said by the scheme below, so that its layer stands
     module _ (layer : ℕ) (names : Cause → ℕ → Bool) where
-      named : (e : Refusal) → Other (Some (said e)) → names e.cause e.layer ≡ true → own_layer layer names e.cause e.layer ≡ true
-      named e o y = rw o y
-
-      other_seal : (p : List ℕ) (room : ℕ) → Other (seal_fault m.limits n given p room)
-      other_seal p room = rw below (seal_others (nat_lt (length n) 12) (nat_lt 31 (length n)) (nat_lt m.limits.page (length p)) (nat_lt room (body_length m.limits (length p))) (length n) (length p) (body_length m.limits (length p)))
-
-      other_open : (b : List ℕ) (room : ℕ) → Other (open_fault m.limits n given b room)
-      other_open b room = rw below (open_others (nat_lt (length n) 12) (nat_lt 31 (length n)) (nat_lt (length b) m.limits.tag) (nat_lt (body_length m.limits m.limits.page) (length b)) (nat_lt room (page_length m.limits (length b))) (length n) (length b) (page_length m.limits (length b)))
-
       pub seal_layer : (p before after : List ℕ) (r : Result ℕ Refusal) → Sealed m n given p before r after → IfErr r (λ e. names e.cause e.layer ≡ true) → IfErr r (λ e. own_layer layer names e.cause e.layer ≡ true)
       seal_layer p before after (Ok i) s y = y
-      seal_layer p before after (Err e) s y = named e (subst Other s.says (other_seal p (length before))) y
+      seal_layer p before after (Err e) s y = let says = s.says in grind (arith, common_steps, below)
 
-      shut_other : (b before after : List ℕ) (e : Refusal) (w : Option Fault) → Other w → Shut m n given b before e after w → Other (Some (said e))
-      shut_other b before after e (Some fault) o s = subst (λ t. Other (Some t)) (sym s.says) o
-      shut_other b before after e None o s = subst (λ t. Other (Some t)) (sym s.says) refl
+      shut_layer : (b before after : List ℕ) (e : Refusal) (w : Option Fault) → w ≡ open_fault m.limits n given b (length before) → Shut m n given b before e after w → names e.cause e.layer ≡ true → own_layer layer names e.cause e.layer ≡ true
+      shut_layer b before after e (Some fault) is s y = let says = s.says in grind (arith, common_steps, below)
+      shut_layer b before after e None is s y = let says = s.says in grind (arith, common_steps)
 
       pub open_layer : (b before after : List ℕ) (r : Result ℕ Refusal) → Opened m n given b before r after → IfErr r (λ e. names e.cause e.layer ≡ true) → IfErr r (λ e. own_layer layer names e.cause e.layer ≡ true)
       open_layer b before after (Ok i) s y = y
-      open_layer b before after (Err e) s y = named e (shut_other b before after e (open_fault m.limits n given b (length before)) (other_open b (length before)) s) y
+      open_layer b before after (Err e) s y = shut_layer b before after e (open_fault m.limits n given b (length before)) refl s y

@@ -1,2 +1,2 @@
-pub mod Guarding
 pub mod Gifts
+pub mod Guarding

@@ -1,8 +1,13 @@
 -- How far sealing and opening have come: for the functions that measure, and no part of what they answer.
 use Rattle.std.specs.Prelude.{◌≡◌, ℕ, ◌≤◌, List, length, None, Some, Option}
+use Rattle.scheme.specs.declared.inputs.Inputs.{Inputs}
 use Rattle.scheme.specs.declared.limits.Limits.{Limits}
 use Rattle.scheme.specs.Meaning.{body_length}
 use Rattle.scheme.specs.Answers.{Fault, input_fault, open_fault, seal_fault}
+
+-- the inputs are nonce n and associated data a
+abbrev pub Holds : Inputs → List ℕ → List ℕ → Type 0
+Holds i n a = (i.nonce.now ≡ n) × (i.ad.now ≡ a)
 
 -- nonce and associated data have this fault, whatever follows
 abbrev pub InputFault : Limits → List ℕ → List ℕ → Fault → Type 0

@@ -3,7 +3,7 @@ ghost use Rattle.std.specs.Prelude.{◌≡◌, ◌<◌, ◌≤◌, length, Some,
 ghost use Rattle.base.specs.Refusals.{refusal};
 ghost use Rattle.scheme.specs.Meaning.{mode_limits, tag_part};
 ghost use Rattle.scheme.specs.Answers.{open_fault, seal_fault, tag_answer};
-ghost use Rattle.scheme.specs.Progress.{InputFault, InputFits, MayOpen, MaySeal};
+ghost use Rattle.scheme.specs.Progress.{Holds, InputFault, InputFits, MayOpen, MaySeal};
 
 use crate::inputs::Inputs;
 use base::refusal::{Cause, Refusal};
@@ -77,7 +77,7 @@ pub fn check_tag_len(width: usize, n: usize) -> Result<(), Refusal>
 // The faults that sealing and opening share.
 fn check_inputs<'a>(limits: Limits, nonce: &'a [u8], ad: &'a [u8]) -> Result<Inputs<'a>, Fault>
     requires { limits.ad ≤ 1024 }
-    ensures { MatchResult result (λ i. (i.nonce.now ≡ nonce.now) × (i.ad.now ≡ ad.now) × InputFits limits nonce.now ad.now) (λ e. InputFault limits nonce.now ad.now (e.0, e.1)) }
+    ensures { MatchResult result (λ i. Holds i nonce.now ad.now × InputFits limits nonce.now ad.now) (λ e. InputFault limits nonce.now ad.now (e.0, e.1)) }
 {
     if ad.len() > limits.ad {
         return Err(Fault(Cause::AdTooLong, ad.len()));
@@ -98,7 +98,7 @@ pub(crate) fn may_seal<'a>(
     room: usize,
 ) -> Result<(Inputs<'a>, usize), Fault>
     requires { tag ≤ 64 }
-    ensures { MatchResult result (λ r. (r.0.nonce.now ≡ nonce.now) × (r.0.ad.now ≡ ad.now) × MaySeal (mode_limits tag) nonce.now ad.now page.now room r.1) (λ e. seal_fault (mode_limits tag) nonce.now ad.now page.now room ≡ Some (e.0, e.1)) }
+    ensures { MatchResult result (λ r. Holds r.0 nonce.now ad.now × MaySeal (mode_limits tag) nonce.now ad.now page.now room r.1) (λ e. seal_fault (mode_limits tag) nonce.now ad.now page.now room ≡ Some (e.0, e.1)) }
 {
     let limits = limits_of(tag);
     let inputs = check_inputs(limits, nonce, ad)?;
@@ -122,7 +122,7 @@ pub(crate) fn may_open<'a>(
     room: usize,
 ) -> Result<(Inputs<'a>, usize), Fault>
     requires { tag ≤ 64 }
-    ensures { MatchResult result (λ r. (r.0.nonce.now ≡ nonce.now) × (r.0.ad.now ≡ ad.now) × MayOpen (mode_limits tag) nonce.now ad.now body.now room r.1) (λ e. open_fault (mode_limits tag) nonce.now ad.now body.now room ≡ Some (e.0, e.1)) }
+    ensures { MatchResult result (λ r. Holds r.0 nonce.now ad.now × MayOpen (mode_limits tag) nonce.now ad.now body.now room r.1) (λ e. open_fault (mode_limits tag) nonce.now ad.now body.now room ≡ Some (e.0, e.1)) }
 {
     let limits = limits_of(tag);
     let inputs = check_inputs(limits, nonce, ad)?;
