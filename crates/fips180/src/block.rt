@@ -15,9 +15,8 @@ fn read_half<W: Word>(half: &[u8]) -> [W; 8]
 {
     let n = W::BYTES;
     let mut words = [W::default(); 8];
-    // Kept: an index, since a write through `iter_mut` beside a second iterator is not proved.
-    for i in 0..8 {
-        words[i] = W::read(&half[n * i..n * (i + 1)]);
+    for (i, word) in words.iter_mut().enumerate() {
+        *word = W::read(&half[n * i..n * (i + 1)]);
     }
     words
 }

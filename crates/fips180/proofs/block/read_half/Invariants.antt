@@ -4,6 +4,6 @@ use Rattle.fips180.proofs.block.read_half.Given as goal
 
 abbrev pub invariant-loop-i : goal.invariant-loop-i
 invariant-loop-i g l = record {
-  long : length l.words ≡ 8;
-  front : take l.i (map g.W.Bits.val l.words) ≡ take l.i (words g.W.Bits.sizes l.half);
+  long : length l.word-items ≡ 8;
+  front : take l.i (map g.W.Bits.val l.word-items) ≡ take l.i (words g.W.Bits.sizes l.half);
 }
