@@ -78,10 +78,10 @@ rounds_split z s (suc n) [] ws hk hw = absurd (let h : suc n ≤ 0 = hk in omega
 rounds_split z s (suc n) (k ∷ ks) [] hk hw = absurd (let h : suc n ≤ 0 = hw in omega arith)
 rounds_split z s (suc n) (k ∷ ks) (w ∷ ws) hk hw = rounds_split z (round z s k w) n ks ws (le_of_suc-le-suc hk) (le_of_suc-le-suc hw)
 
--- the rounds that are left when the schedule is whole
-pub going_all : (z : Sizes) (start : State ℕ) (block ws : List ℕ) (n t : ℕ) {s : State ℕ} → length z.constants ≡ z.rounds → length ws ≡ z.rounds → 16 ≤ z.rounds
+-- the schedule is whole: with the rounds that are left, all are done
+pub after_all : (z : Sizes) (start : State ℕ) (block ws : List ℕ) (n t : ℕ) {s : State ℕ} → length z.constants ≡ z.rounds → length ws ≡ z.rounds → 16 ≤ z.rounds
     → n ≡ z.rounds - 16 → t ≡ n → Going z start z.constants block ws t s → rounds z s (drop n z.constants) (drop n ws) ≡ worked z start block
-going_all z start block ws n t {s} lk lw h en et g =
+after_all z start block ws n t {s} lk lw h en et g =
     let w : take (t + 16) ws ≡ ws = take_all (t + 16) ws (omega arith) in
     let b = rounds_split z start t z.constants ws (omega arith) (omega arith) in
     rw (← et) (ap (λ (v : State ℕ). rounds z v (drop t z.constants) (drop t ws)) g.state.is

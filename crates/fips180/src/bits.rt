@@ -95,6 +95,8 @@ pub(crate) fn small_sigma<W: Bits>(x: W, a: u32, b: u32, c: u32) -> W
     x.turned(a) ^ x.turned(b) ^ x.shifted(c)
 }
 
+// Kept: an impl for each type. Its methods are one call each, and the traits of `num_traits` that
+// make such calls speak of whole numbers, from which each clause here would need a bridge.
 impl Bits for u32 {
     const BYTES: usize = 4;
 

@@ -33,6 +33,7 @@ fn write_half<W: Word>(words: [W; 8], out: &mut [u8])
 }
 
 // The compression of a block, handed in as two halves, into the chaining value h.
+// Kept: lengths by clauses, since a type for half a block would ask for the same where it is made.
 pub fn compress_halves<W: Word>(h: &[u8], left: &[u8], right: &[u8], out: &mut [u8])
     requires h { length h.now ≡ W.sizes.bytes * 8 }
     requires left { length left.now ≡ W.sizes.bytes * 8 }

@@ -41,17 +41,18 @@ fn next_word<W: Word>(w: &[W], t: usize) -> W
         .plus(w[t - 16])
 }
 
-// The working variables after all rounds, from `start`. The sixteen words of the block stand in
-// front of `w`, which is room for the schedule.
+// The chaining value after a block, from the chaining value `start`. The sixteen words of the
+// block stand in front of `w`, which is room for the schedule.
 // A round and the word that is due sixteen rounds later are worked out in one turn: neither waits
 // for the other, so that a processor does both at once.
-fn rounds<W: Word>(start: State<W>, w: &mut [W]) -> State<W>
+fn run<W: Word>(start: State<W>, w: &mut [W]) -> State<W>
     requires { length w.old ≡ W.sizes.rounds }
-    ensures { values W.val result ≡ worked W.sizes (values W.val start) (take 16 (map W.val w.old)) }
+    ensures { values W.val result ≡ added W.sizes (worked W.sizes (values W.val start) (take 16 (map W.val w.old))) (values W.val start) }
 {
     let constants = W::constants();
     let late = constants.len() - 16;
     let mut s = start;
+    // Kept: `w` by an index, since a turn reads and writes it at several places.
     for (t, k) in constants[0..late].iter().enumerate() {
         s = round(s, *k, w[t]);
         w[t + 16] = next_word(w, t + 16);
@@ -59,13 +60,13 @@ fn rounds<W: Word>(start: State<W>, w: &mut [W]) -> State<W>
     for (k, x) in constants[late..].iter().zip(&w[late..]) {
         s = round(s, *k, *x);
     }
-    s
+    s + start
 }
 
 // The most rounds of a member of the family.
 const MOST_ROUNDS: usize = 80;
 
-// The chaining value after a block of two halves, from the chaining value `start`.
+// The same of a block that is handed in as two halves, from the chaining value `start`.
 pub(crate) fn compress<W: Word>(start: State<W>, left: [W; 8], right: [W; 8]) -> State<W>
     ensures { values W.val result ≡ added W.sizes (worked W.sizes (values W.val start) (map W.val left ++ map W.val right)) (values W.val start) }
 {
@@ -74,5 +75,5 @@ pub(crate) fn compress<W: Word>(start: State<W>, left: [W; 8], right: [W; 8]) ->
     let w = &mut room[0..W::constants().len()];
     w[0..8].copy_from_slice(&left);
     w[8..16].copy_from_slice(&right);
-    rounds(start, w) + start
+    run(start, w)
 }

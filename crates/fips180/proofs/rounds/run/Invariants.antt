@@ -4,7 +4,7 @@ use Rattle.std.specs.Slice.Iter.{iter_rest}
 use Rattle.fips180.specs.Compression.{rounds}
 use Rattle.fips180.specs.Values.{values}
 use Rattle.fips180.proofs.Schedules.{Going}
-use Rattle.fips180.proofs.rounds.rounds.Given as goal
+use Rattle.fips180.proofs.rounds.run.Given as goal
 
 abbrev pub invariant-loop-t : goal.invariant-loop-t
 invariant-loop-t g l =
