@@ -31,8 +31,8 @@ schedule_more z w ws n v h e inv =
 rounds_push : (z : Sizes) (s : State ℕ) (ks ws : List ℕ) (k w : ℕ) → length ks ≡ length ws → rounds z s (ks ++ k ∷ []) (ws ++ w ∷ []) ≡ round z (rounds z s ks ws) k w
 unfolding rounds
 rounds_push z s [] [] k w e = refl
-rounds_push z s [] (y ∷ ws) k w e = absurd (let h : 0 ≡ suc (length ws) = e in omega arith)
-rounds_push z s (x ∷ ks) [] k w e = absurd (let h : suc (length ks) ≡ 0 = e in omega arith)
+rounds_push z s [] (y ∷ ws) k w e = cc
+rounds_push z s (x ∷ ks) [] k w e = cc
 rounds_push z s (x ∷ ks) (y ∷ ws) k w e = rounds_push z (round z s x y) ks ws k w (let h : suc (length ks) ≡ suc (length ws) = e in omega arith)
 
 -- the state after the first t rounds
@@ -98,5 +98,5 @@ pub rounds_end : {X : Type 0} (z : Sizes) (f : X → ℕ) (s : State ℕ) (ks ws
 unfolding rounds
 rounds_end z f s [] ws e = refl
 rounds_end z f s (k ∷ ks) [] e = refl
-rounds_end z f s (k ∷ ks) (w ∷ ws) (inl e) = absurd (let l : suc (length ks) ≡ 0 = ap length e in omega arith)
-rounds_end z f s (k ∷ ks) (w ∷ ws) (inr e) = absurd (let l : suc (length ws) ≡ 0 = ap length e in omega arith)
+rounds_end z f s (k ∷ ks) (w ∷ ws) (inl e) = cc
+rounds_end z f s (k ∷ ks) (w ∷ ws) (inr e) = cc

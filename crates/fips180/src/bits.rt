@@ -136,6 +136,7 @@ impl Bits for u32 {
         self.wrapping_add(y)
     }
 
+    #[tactic(auto, using(crate::proofs::Turns::turn))]
     fn turned(self, n: u32) -> u32 {
         self.rotate_right(n)
     }
@@ -184,6 +185,7 @@ impl Bits for u64 {
         self.wrapping_add(y)
     }
 
+    #[tactic(auto, using(crate::proofs::Turns::turn))]
     fn turned(self, n: u32) -> u64 {
         self.rotate_right(n)
     }

@@ -7,6 +7,7 @@ use crate::bits::{ch, maj};
 use crate::state::State;
 use crate::word::Word;
 
+#[tactic(auto, unfolding(crate::specs::Compression::round))]
 fn round<W: Word>(s: State<W>, k: W, w: W) -> State<W>
     ensures { values W.val result ≡ turned W.sizes (values W.val s) (W.val k) (W.val w) }
 {

@@ -39,6 +39,7 @@ impl Word for u32 {
 
     ghost table = { unfold constants256 in refl };
 
+    #[tactic(auto, unfolding(crate::specs::Constants::constants256))]
     fn constants() -> &'static [u32] {
         &K256
     }
@@ -65,6 +66,7 @@ impl Word for u64 {
 
     ghost table = { unfold constants512 in refl };
 
+    #[tactic(auto, unfolding(crate::specs::Constants::constants512))]
     fn constants() -> &'static [u64] {
         &K512
     }
