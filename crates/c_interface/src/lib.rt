@@ -30,7 +30,7 @@ fn compress_once<F: Keyed + Drop>(
     f.compress(h, m, out)
 }
 
-// 0, or the number of the cause.
+// 0, or the number of the cause. Kept: a number, for C.
 fn code_of(answer: Result<(), Refusal>) -> u8
     ensures { result ≡ code answer }
 {
@@ -41,6 +41,7 @@ fn code_of(answer: Result<(), Refusal>) -> u8
 }
 
 // SHA-256's F(h, m) under a key, to `out`.
+// Kept: a function for each, since C calls them by name, and no function with a type parameter.
 #[unsafe(no_mangle)]
 pub extern "C" fn yardolive_sha256(key: &[u8], h: &[u8], m: &[u8], out: &mut [u8]) -> u8
     ensures answer { result ≡ code (keyed_answer 32 (length key.now) (length h.now) (length m.now) (length out.old)) }

@@ -10,14 +10,14 @@ use Rattle.fips180.specs.Compression.{words, state_of, listed, added, worked, co
 use Rattle.fips180.specs.declared.state.State.{State}
 use Rattle.fips180.proofs.Strings.{words_append}
 
--- the steps of the code, joined: `front` is the first half's words, and `all` the words of both
-pub compressed_from : (z : Sizes) → 0 < z.bytes → (h left right : List ℕ) {front all out : List ℕ} {s t : State ℕ} → length left ≡ z.bytes * 8 → s ≡ state_of (words z h)
-    → front ≡ words z left → all ≡ front ++ words z right → t ≡ added z (worked z s all) s
-    → out ≡ flat_map (digits z.bytes) (listed t) → out ≡ half_fixed z left h right
+-- the steps of the code, joined: `hs`, `ls` and `rs` are the words of the chaining value and of the halves, and `ws` those that are written
+pub compressed_from : (z : Sizes) → 0 < z.bytes → (h left right : List ℕ) {hs ls rs ws out : List ℕ} {s t : State ℕ} → length left ≡ z.bytes * 8
+    → hs ≡ words z h → ls ≡ words z left → rs ≡ words z right → s ≡ state_of hs → t ≡ added z (worked z s (ls ++ rs)) s → ws ≡ listed t
+    → out ≡ flat_map (digits z.bytes) ws → out ≡ half_fixed z left h right
 unfolding compressed half_fixed
-compressed_from z p h left right {front} {all} {out} {s} {t} l es el er et eo =
-    let both : all ≡ words z (left ++ right) = er ∙ ap (λ (ws : List ℕ). ws ++ words z right) el ∙ sym (words_append z p 8 left right l) in
-    eo ∙ ap (λ (u : State ℕ). flat_map (digits z.bytes) (listed u)) (et ∙ ap₂ (λ (u : State ℕ) (ws : List ℕ). added z (worked z u ws) u) es both)
+compressed_from z p h left right {hs} {ls} {rs} {ws} {out} {s} {t} l eh el er es et ew eo =
+    let both : ls ++ rs ≡ words z (left ++ right) = ap₂ (λ (a b : List ℕ). a ++ b) el er ∙ sym (words_append z p 8 left right l) in
+    eo ∙ ap (flat_map (digits z.bytes)) (ew ∙ ap listed (et ∙ ap₂ (λ (u : State ℕ) (block : List ℕ). added z (worked z u block) u) (es ∙ ap state_of eh) both))
 
 length-joined : (b : ℕ) (xs : List ℕ) → length (flat_map (digits b) xs) ≡ length xs * b
 length-joined b [] = sym (zero-mul b)

@@ -1,4 +1,4 @@
-pub mod Codes
+pub mod Turns
 pub mod Strings
 pub mod Mapped
 pub mod Schedules

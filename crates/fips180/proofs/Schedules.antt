@@ -1,5 +1,5 @@
 -- The schedule and the rounds, one turn after the other.
-use Rattle.std.proofs.Common.{◌≡◌, ℕ, suc, ◌+◌, ◌-◌, ◌<◌, ◌≤◌, List, [], ◌∷◌, ◌++◌, length, get_or, take, set, sym, refl, ap, ◌∙◌, ap₂, add-one, arith}
+use Rattle.std.proofs.Common.{◌≡◌, ℕ, zero, suc, ◌+◌, ◌-◌, ◌<◌, ◌≤◌, List, [], ◌∷◌, ◌++◌, map, length, get_or, take, drop, set, le_of_suc-le-suc, ◌⊎◌, inl, inr, sym, refl, ap, ◌∙◌, ap₂, add-one, arith}
 use Rattle.std.proofs.lemmas.List.{get_or-take, take_more, take_more_set, take-set-le, length-take-le, take_all}
 use Rattle.fips180.specs.Words.{Sizes}
 use Rattle.fips180.specs.Compression.{word_at, schedule, round, rounds, worked}
@@ -31,19 +31,19 @@ schedule_more z w ws n v h e inv =
 rounds_push : (z : Sizes) (s : State ℕ) (ks ws : List ℕ) (k w : ℕ) → length ks ≡ length ws → rounds z s (ks ++ k ∷ []) (ws ++ w ∷ []) ≡ round z (rounds z s ks ws) k w
 unfolding rounds
 rounds_push z s [] [] k w e = refl
-rounds_push z s [] (y ∷ ws) k w e = absurd (let h : 0 ≡ suc (length ws) = e in omega arith)
-rounds_push z s (x ∷ ks) [] k w e = absurd (let h : suc (length ks) ≡ 0 = e in omega arith)
+rounds_push z s [] (y ∷ ws) k w e = cc
+rounds_push z s (x ∷ ks) [] k w e = cc
 rounds_push z s (x ∷ ks) (y ∷ ws) k w e = rounds_push z (round z s x y) ks ws k w (let h : suc (length ks) ≡ suc (length ws) = e in omega arith)
 
 -- the state after the first t rounds
 pub record After (z : Sizes) (start : State ℕ) (ks ws : List ℕ) (t : ℕ) (s : State ℕ) : Type 0 where
   pub is : s ≡ rounds z start (take t ks) (take t ws)
 
-pub after_none : (z : Sizes) (start : State ℕ) (ks ws : List ℕ) → After z start ks ws 0 start
+after_none : (z : Sizes) (start : State ℕ) (ks ws : List ℕ) → After z start ks ws 0 start
 unfolding rounds
 after_none z start ks ws = record { is = refl }
 
-pub after_more : (z : Sizes) (start : State ℕ) (ks ws : List ℕ) (t : ℕ) {s u : State ℕ} → t < length ks → t < length ws → u ≡ round z s (get_or ks t 0) (get_or ws t 0)
+after_more : (z : Sizes) (start : State ℕ) (ks ws : List ℕ) (t : ℕ) {s u : State ℕ} → t < length ks → t < length ws → u ≡ round z s (get_or ks t 0) (get_or ws t 0)
     → After z start ks ws t s → After z start ks ws (t + 1) u
 after_more z start ks ws t {s} {u} hk hw e a =
     let l : length (take t ks) ≡ length (take t ws) = length-take-le t ks (omega arith) ∙ sym (length-take-le t ws (omega arith)) in
@@ -55,9 +55,9 @@ pub record Going (z : Sizes) (start : State ℕ) (ks block ws : List ℕ) (t : �
   pub words : take (t + 16) ws ≡ schedule z t block
   pub state : After z start ks ws t s
 
-pub going_none : (z : Sizes) (start : State ℕ) (ks ws : List ℕ) → Going z start ks (take 16 ws) ws 0 start
+pub going_none : (z : Sizes) (start : State ℕ) (ks block ws : List ℕ) → take 16 ws ≡ block → Going z start ks block ws 0 start
 unfolding schedule
-going_none z start ks ws = record { words = refl; state = after_none z start ks ws }
+going_none z start ks block ws e = record { words = e; state = after_none z start ks ws }
 
 -- a word written behind the first t leaves them
 after_set : (z : Sizes) (start : State ℕ) (ks ws : List ℕ) (t i v : ℕ) {s : State ℕ} → t ≤ i → After z start ks ws t s → After z start ks (set ws i v) t s
@@ -70,11 +70,33 @@ going_more z start ks block ws t v hk hw eu ev g = record {
   state = after_set z start ks ws (t + 1) (t + 16) v (omega arith) (after_more z start ks ws t hk (omega arith) eu g.state);
 }
 
--- all rounds are done
-pub after_all : (z : Sizes) (start : State ℕ) (block ws : List ℕ) (n t : ℕ) {s m : State ℕ} → length z.constants ≡ z.rounds → length ws ≡ z.rounds → 16 ≤ z.rounds
-    → n ≡ z.rounds - 16 → t ≡ z.rounds → Going z start z.constants block ws n m → After z start z.constants ws t s → s ≡ worked z start block
-after_all z start block ws n t {s} {m} lk lw h en et g a =
-    let k : take t z.constants ≡ z.constants = take_all t z.constants (omega arith) in
-    let w : take t ws ≡ ws = take_all t ws (omega arith) in
-    let w' : take (n + 16) ws ≡ ws = take_all (n + 16) ws (omega arith) in
-    a.is ∙ ap₂ (rounds z start) k (w ∙ sym w' ∙ g.words ∙ ap (λ (i : ℕ). schedule z i block) en)
+-- the rounds in two parts
+rounds_split : (z : Sizes) (s : State ℕ) (n : ℕ) (ks ws : List ℕ) → n ≤ length ks → n ≤ length ws → rounds z (rounds z s (take n ks) (take n ws)) (drop n ks) (drop n ws) ≡ rounds z s ks ws
+unfolding rounds
+rounds_split z s zero ks ws hk hw = refl
+rounds_split z s (suc n) [] ws hk hw = absurd (let h : suc n ≤ 0 = hk in omega arith)
+rounds_split z s (suc n) (k ∷ ks) [] hk hw = absurd (let h : suc n ≤ 0 = hw in omega arith)
+rounds_split z s (suc n) (k ∷ ks) (w ∷ ws) hk hw = rounds_split z (round z s k w) n ks ws (le_of_suc-le-suc hk) (le_of_suc-le-suc hw)
+
+-- the schedule is whole: with the rounds that are left, all are done
+pub after_all : (z : Sizes) (start : State ℕ) (block ws : List ℕ) (n t : ℕ) {s : State ℕ} → length z.constants ≡ z.rounds → length ws ≡ z.rounds → 16 ≤ z.rounds
+    → n ≡ z.rounds - 16 → t ≡ n → Going z start z.constants block ws t s → rounds z s (drop n z.constants) (drop n ws) ≡ worked z start block
+after_all z start block ws n t {s} lk lw h en et g =
+    let w : take (t + 16) ws ≡ ws = take_all (t + 16) ws (omega arith) in
+    let b = rounds_split z start t z.constants ws (omega arith) (omega arith) in
+    rw (← et) (ap (λ (v : State ℕ). rounds z v (drop t z.constants) (drop t ws)) g.state.is
+    ∙ b
+    ∙ ap (rounds z start z.constants) (sym w ∙ g.words ∙ ap (λ (i : ℕ). schedule z i block) (et ∙ en)))
+
+-- one round of them
+pub rounds_more : (z : Sizes) (s u : State ℕ) (k w : ℕ) (ks ws ks' ws' : List ℕ) → u ≡ round z s k w → ks ≡ k ∷ ks' → ws ≡ w ∷ ws' → rounds z s ks ws ≡ rounds z u ks' ws'
+unfolding rounds
+rounds_more z s u k w ks ws ks' ws' e ek ew = rw (ek, ew, e)
+
+-- no more
+pub rounds_end : {X : Type 0} (z : Sizes) (f : X → ℕ) (s : State ℕ) (ks ws : List X) → (ks ≡ []) ⊎ (ws ≡ []) → rounds z s (map f ks) (map f ws) ≡ s
+unfolding rounds
+rounds_end z f s [] ws e = refl
+rounds_end z f s (k ∷ ks) [] e = refl
+rounds_end z f s (k ∷ ks) (w ∷ ws) (inl e) = cc
+rounds_end z f s (k ∷ ks) (w ∷ ws) (inr e) = cc

@@ -1,5 +1,5 @@
 -- The words of a string of bytes.
-use Rattle.std.proofs.Common.{◌≡◌, ℕ, zero, suc, ◌+◌, ◌*◌, ◌<◌, ◌≤◌, List, [], ◌∷◌, ◌++◌, map, length, get_or, take, drop, sym, ap, ◌∙◌, mul-zero, mul-one, mul-suc, mul-add, arith}
+use Rattle.std.proofs.Common.{◌≡◌, ℕ, zero, suc, ◌+◌, ◌-◌, ◌*◌, ◌<◌, ◌≤◌, List, [], ◌∷◌, ◌++◌, map, length, get_or, take, drop, sym, ap, ◌∙◌, mul-zero, mul-one, mul-suc, mul-add, arith}
 use lib.Seq.{take-append-le}
 use Rattle.std.proofs.lemmas.List.{drop-drop, drop-append-le, length-drop, length-append}
 use Rattle.base.specs.Bytes.{number}
@@ -56,3 +56,9 @@ words_append z p (suc n) x y e =
     ∙ rw (take-append-le b x y l, drop-append-le b x y l)
     (ap (λ (ws : List ℕ). number (take b x) ∷ ws) (words_append z p n (drop b x) y d)
     ∙ ap (λ (ws : List ℕ). ws ++ words z y) (sym (words_more z p x l')))
+
+-- the part of a string that is its i-th word
+pub word_of : (z : Sizes) → 0 < z.bytes → (x : List ℕ) (b i : ℕ) → b ≡ z.bytes → z.bytes * (i + 1) ≤ length x → number (take (b * (i + 1) - b * i) (drop (b * i) x)) ≡ get_or (words z x) i 0
+word_of z p x b i e h =
+    let k : b * (i + 1) - b * i ≡ b = omega (arith, mul-add b i 1, mul-one b) in
+    rw (k, e) (words_at z p x i h)

@@ -1,5 +1,5 @@
 -- FIPS 180-4, sections 2.2.2, 3.2 and 4.1: the operations on words, for words of 32 and of 64 bits.
-use Rattle.std.specs.Prelude.{ℕ, ◌+◌, ◌-◌, ◌*◌, ◌/◌, ◌%◌, ◌^◌, List, bit_and, bit_or, bit_xor}
+use Rattle.std.specs.Prelude.{ℕ, ◌+◌, ◌-◌, ◌*◌, ◌/◌, ◌%◌, ◌^◌, ◌<◌, List, bit_and, bit_or, bit_xor}
 use Rattle.fips180.specs.Constants.{constants256, constants512}
 
 -- What differs between SHA-256 and SHA-512: the bytes of a word, the number of rounds and their constants,
@@ -38,6 +38,10 @@ sha512 = record {
 -- the bits of a word
 abbrev pub bits : Sizes → ℕ
 bits z = 8 * z.bytes
+
+-- a distance by which a word can be turned
+abbrev pub IsTurn : Sizes → ℕ → Type 0
+IsTurn z n = (0 < n) × (n < bits z)
 
 -- x + y modulo 2 ^ bits
 abbrev pub plus : Sizes → ℕ → ℕ → ℕ

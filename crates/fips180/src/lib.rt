@@ -3,6 +3,7 @@
 // Read first: specs/Words.antt, then specs/Compression.antt, beside FIPS 180-4.
 #![tactic(auto)]
 
+pub mod bits;
 pub mod block;
 pub mod rounds;
 pub mod state;

@@ -1,11 +1,13 @@
 // The schedule and the rounds.
-ghost use Rattle.std.specs.Prelude.{◌≡◌, ◌≤◌, map, length, take};
+ghost use Rattle.std.specs.Prelude.{◌≡◌, ◌≤◌, ◌++◌, map, length, take};
 ghost use Rattle.fips180.specs.Compression.{word_at, round as turned, added, worked};
 ghost use Rattle.fips180.specs.Values.{values};
 
+use crate::bits::{ch, maj};
 use crate::state::State;
-use crate::word::{Word, ch, maj};
+use crate::word::Word;
 
+#[tactic(auto, unfolding(crate::specs::Compression::round))]
 fn round<W: Word>(s: State<W>, k: W, w: W) -> State<W>
     ensures { values W.val result ≡ turned W.sizes (values W.val s) (W.val k) (W.val w) }
 {
@@ -40,40 +42,39 @@ fn next_word<W: Word>(w: &[W], t: usize) -> W
         .plus(w[t - 16])
 }
 
-impl<W: Word> State<W> {
-    // Word by word.
-    fn plus(self, t: State<W>) -> State<W>
-        ensures { values W.val result ≡ added W.sizes (values W.val self) (values W.val t) }
-    {
-        State {
-            a: self.a.plus(t.a),
-            b: self.b.plus(t.b),
-            c: self.c.plus(t.c),
-            d: self.d.plus(t.d),
-            e: self.e.plus(t.e),
-            f: self.f.plus(t.f),
-            g: self.g.plus(t.g),
-            h: self.h.plus(t.h),
-        }
-    }
-}
-
 // The chaining value after a block, from the chaining value `start`. The sixteen words of the
 // block stand in front of `w`, which is room for the schedule.
 // A round and the word that is due sixteen rounds later are worked out in one turn: neither waits
 // for the other, so that a processor does both at once.
-pub(crate) fn run<W: Word>(start: State<W>, w: &mut [W]) -> State<W>
+fn run<W: Word>(start: State<W>, w: &mut [W]) -> State<W>
     requires { length w.old ≡ W.sizes.rounds }
     ensures { values W.val result ≡ added W.sizes (worked W.sizes (values W.val start) (take 16 (map W.val w.old))) (values W.val start) }
 {
+    let constants = W::constants();
+    let late = constants.len() - 16;
     let mut s = start;
-    let late = w.len() - 16;
-    for t in 0..late {
-        s = round(s, W::constant(t), w[t]);
+    // Kept: `w` by an index, since a turn reads and writes it at several places.
+    for (t, k) in constants[0..late].iter().enumerate() {
+        s = round(s, *k, w[t]);
         w[t + 16] = next_word(w, t + 16);
     }
-    for t in late..w.len() {
-        s = round(s, W::constant(t), w[t]);
+    for (k, x) in constants[late..].iter().zip(&w[late..]) {
+        s = round(s, *k, *x);
     }
-    s.plus(start)
+    s + start
+}
+
+// The most rounds of a member of the family.
+const MOST_ROUNDS: usize = 80;
+
+// The same of a block that is handed in as two halves, from the chaining value `start`.
+pub(crate) fn compress<W: Word>(start: State<W>, left: [W; 8], right: [W; 8]) -> State<W>
+    ensures { values W.val result ≡ added W.sizes (worked W.sizes (values W.val start) (map W.val left ++ map W.val right)) (values W.val start) }
+{
+    let mut room = [W::default(); MOST_ROUNDS];
+    let room = &mut room[..];
+    let w = &mut room[0..W::constants().len()];
+    w[0..8].copy_from_slice(&left);
+    w[8..16].copy_from_slice(&right);
+    run(start, w)
 }

@@ -4,5 +4,6 @@
 // Read first: specs/Keys.antt, then `Compression` and `Keyed` in the crate compression.
 #![tactic(auto)]
 
+pub mod sha2;
 pub mod sha256;
 pub mod sha512;

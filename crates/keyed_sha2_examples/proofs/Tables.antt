@@ -1,5 +1,6 @@
 -- A test of a whole table, and what it says of each entry.
-use Rattle.std.proofs.Common.{◌≡◌, ℕ, zero, suc, ◌+◌, ◌*◌, ◌^◌, ◌<◌, Bool, true, false, cond, ◌&&◌, ltb, leb, List, [], ◌∷◌, length, get_or, refl, le_of_suc-le-suc, not-suc-le-zero, arith, ltb-true, leb-true}
+use Rattle.std.proofs.Common.{◌≡◌, ℕ, zero, suc, ◌+◌, ◌*◌, ◌^◌, ◌<◌, Bool, true, false, cond, ◌&&◌, ltb, leb, List, [], ◌∷◌, length, get_or, le_of_suc-le-suc, not-suc-le-zero, ltb-true, leb-true}
+use Rattle.std.proofs.lemmas.Bool.{and_parts}
 use Rattle.keyed_sha2_examples.specs.CubeRoots.{Fraction}
 
 -- the whole part of a root below n + 1
@@ -15,25 +16,13 @@ fractions b ps [] = true
 fractions b [] (k ∷ ks) = false
 fractions b (p ∷ ps) (k ∷ ks) = fraction b (whole 7 p) p k && fractions b ps ks
 
-left : (a b : Bool) → a && b ≡ true → a ≡ true
-left true b e = refl
-left false b e = e
-
-right : (a b : Bool) → a && b ≡ true → b ≡ true
-right true b e = e
-right false b e = absurd (let z : ◌≡◌ {A = Bool} false true = e in let o : ◌≡◌ {A = ℕ} 0 1 = cc in omega arith)
-
 pub at : (b : ℕ) (ps ks : List ℕ) → fractions b ps ks ≡ true → (t : ℕ) → t < length ks → Fraction b (get_or ps t 0) (get_or ks t 0)
 at b ps [] e t h = absurd (not-suc-le-zero h)
-at b [] (k ∷ ks) e t h = absurd (let o : ◌≡◌ {A = ℕ} 0 1 = cc in omega arith)
+at b [] (k ∷ ks) e t h = cc
 at b (p ∷ ps) (k ∷ ks) e zero h =
     let n = whole 7 p in
-    let here = left (fraction b n p k) (fractions b ps ks) e in
-    let rest = right (ltb k (2 ^ b)) _ here in
-    record {
-      n = n;
-      fits = ltb-true _ _ (left (ltb k (2 ^ b)) _ here);
-      least = leb-true _ _ (left _ _ rest);
-      most = ltb-true _ _ (right _ _ rest);
-    }
-at b (p ∷ ps) (k ∷ ks) e (suc t) h = at b ps ks (right (fraction b (whole 7 p) p k) (fractions b ps ks) e) t (le_of_suc-le-suc h)
+    let here = and_parts (fraction b n p k) (fractions b ps ks) e in
+    let fits = and_parts (ltb k (2 ^ b)) _ here.0 in
+    let root = and_parts (leb ((n * 2 ^ b + k) ^ 3) (p * 2 ^ (3 * b))) _ fits.1 in
+    record { n = n; fits = ltb-true _ _ fits.0; least = leb-true _ _ root.0; most = ltb-true _ _ root.1 }
+at b (p ∷ ps) (k ∷ ks) e (suc t) h = at b ps ks (and_parts (fraction b (whole 7 p) p k) (fractions b ps ks) e).1 t (le_of_suc-le-suc h)

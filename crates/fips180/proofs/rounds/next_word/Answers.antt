@@ -6,7 +6,7 @@ use Rattle.fips180.proofs.rounds.next_word.Goals as goal
 pub returns : goal.returns
 unfolding word_at
 returns g c =
-    let v = g.W.Word.val in
+    let v = g.W.Bits.val in
     let w = c.args.w.now in
     let t = c.args.t in
     let e1 = read-map v w (t - 2) c.index-w-t.result (omega arith) c.index-w-t.is in

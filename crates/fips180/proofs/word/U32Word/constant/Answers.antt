@@ -1,7 +1,0 @@
-use Rattle.std.proofs.Common.{rules}
-use Rattle.fips180.specs.Constants.{constants256}
-use Rattle.fips180.proofs.word.U32Word.constant.Goals as goal
-
-pub returns : goal.returns
-unfolding constants256
-returns c = search rules
