@@ -22,7 +22,7 @@ fn compress_once<F: Keyed + Drop>(
     m: &[u8],
     out: &mut [u8],
 ) -> Result<(), Refusal>
-    ensures answer { result ≡ keyed_answer F.width (length key.now) (length h.now) (length m.now) (length out.old) }
+    ensures answer { result ≡ keyed_answer F.WIDTH (length key.now) (length h.now) (length m.now) (length out.old) }
     ensures output { out.new ≡ (if is_ok result then F.under key.now h.now m.now else out.old) }
 {
     let mut f = F::new();

@@ -4,40 +4,45 @@ ghost use Rattle.compression.specs.Answers.{answer, misfit};
 
 use base::refusal::{Cause, Refusal};
 
-// A keyed compression function F. It means a fixed map from two parts of `width` bytes, H and M,
-// to `width` bytes. The two constants belong to the kind of function; `block_len` and `reduction`
-// hand them to code that knows only the trait.
+// A keyed compression function F. It means a fixed map from two parts of `WIDTH` bytes, H and M, to
+// `WIDTH` bytes.
 pub trait Compression {
     const WIDTH: usize;
 
     const FEEDBACK: u16;
 
-    ghost width: { ℕ };
+    ghost WIDTH: { ℕ };
 
-    ghost feedback: { ℕ };
+    ghost FEEDBACK: { ℕ };
 
     ghost value: { Self → List ℕ → List ℕ → List ℕ };
-
-    fn block_len() -> usize
-        ensures { result ≡ width };
-
-    fn reduction() -> u16
-        ensures { result ≡ feedback };
 
     // Writes F(h, m) to `out`. Refuses a part that has not the width: H first, then M, then the
     // output; `out` is then as it was. The meaning stays in any case.
     fn compress(&mut self, h: &[u8], m: &[u8], out: &mut [u8]) -> Result<(), Refusal>
         ensures kept { value self.new ≡ value self.old }
-        ensures answer { result ≡ answer width (length h.now) (length m.now) (length out.old) }
+        ensures answer { result ≡ answer WIDTH (length h.now) (length m.now) (length out.old) }
         ensures output { out.new ≡ (if is_ok result then value self.old h.now m.now else out.old) };
 
-    ghost wide: { (32 ≤ width) × (width ≤ 64) };
+    ghost wide: { (32 ≤ WIDTH) × (WIDTH ≤ 64) };
 
-    ghost narrow: { feedback < 2 ^ 16 };
+    ghost narrow: { FEEDBACK < 2 ^ 16 };
 
-    ghost sized: { (f : Self) (h m : List ℕ) → length h ≡ width → length m ≡ width → length (value f h m) ≡ width };
+    ghost sized: { (f : Self) (h m : List ℕ) → length h ≡ WIDTH → length m ≡ WIDTH → length (value f h m) ≡ WIDTH };
 
     ghost bytes: { (f : Self) (h m : List ℕ) → Bytes h → Bytes m → Bytes (value f h m) };
+
+    final fn block_len() -> usize
+        ensures { result ≡ WIDTH }
+    {
+        Self::WIDTH
+    }
+
+    final fn reduction() -> u16
+        ensures { result ≡ FEEDBACK }
+    {
+        Self::FEEDBACK
+    }
 }
 
 // A part of `len` bytes where `width` are asked.

@@ -19,7 +19,7 @@ pub trait Keyed: Compression {
     // Takes a key of 10 bytes to the width, and then means what it means under that key. Refuses
     // any other, and keeps the old key.
     fn set_key(&mut self, key: &[u8]) -> Result<(), Refusal>
-        ensures answer { result ≡ key_answer Self.width (length key.now) }
+        ensures answer { result ≡ key_answer Self.WIDTH (length key.now) }
         ensures meaning { Self.value self.new ≡ (if is_ok result then under key.now else Self.value self.old) };
 }
 

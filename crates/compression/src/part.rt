@@ -15,7 +15,7 @@ const LONGEST: usize = 64;
 pub struct Part<F: Compression> {
     bytes: [u8; LONGEST],
     of: PhantomData<F>,
-    ghost long: { length (take F.width bytes) ≡ F.width },
+    ghost long: { length (take F.WIDTH bytes) ≡ F.WIDTH },
 }
 
 // Written out, since a derive would ask that F itself can be copied.

@@ -15,9 +15,9 @@ impl Compression for Trial {
 
     const FEEDBACK: u16 = 0x0425;
 
-    ghost width = { 32 };
+    ghost WIDTH = { 32 };
 
-    ghost feedback = { 0x0425 };
+    ghost FEEDBACK = { 0x0425 };
 
     ghost value = { λ _ h m. xor h m };
 
@@ -28,14 +28,6 @@ impl Compression for Trial {
     ghost sized = { λ f h m eh em. length-xor h m ∙ omega arith };
 
     ghost bytes = { λ f h m bh bm. Bytes-xor h m bh bm };
-
-    fn block_len() -> usize {
-        Self::WIDTH
-    }
-
-    fn reduction() -> u16 {
-        Self::FEEDBACK
-    }
 
     fn compress(&mut self, h: &[u8], m: &[u8], out: &mut [u8]) -> Result<(), Refusal> {
         check_parts(Self::WIDTH, h.len(), m.len(), out.len())?;

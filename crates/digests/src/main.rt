@@ -60,7 +60,7 @@ fn padded(heap: Global, message: &[u8], block: usize) -> Result<Vec<u8>, AllocEr
 
 // One block: its first half is the key, its second half M.
 fn absorb<F: Keyed>(f: &mut F, h: &[u8], block: &[u8], out: &mut [u8]) -> Result<(), Refusal> {
-    let (key, m) = block.split_at(F::block_len().min(block.len()));
+    let (key, m) = block.split_at(F::WIDTH.min(block.len()));
     f.set_key(key)?;
     f.compress(h, m, out)
 }
@@ -71,7 +71,7 @@ fn digest<F: Keyed + Drop>(
     start: &[u8],
     message: &[u8],
 ) -> Result<String, AllocError> {
-    let block = 2 * F::block_len();
+    let block = 2 * F::WIDTH;
     let mut f = F::new();
     let mut h = Vec::from_slice(heap, start)?;
     let mut next = Vec::from_slice(heap, start)?;

@@ -25,7 +25,7 @@ impl<F: Compression> Clone for OffsetTable<F> {
 
 // `first` doubled n times.
 fn raise<F: Compression>(first: Part<F>, n: usize) -> Part<F>
-    ensures { bytes_of result ≡ doubled F.feedback n (bytes_of first) }
+    ensures { bytes_of result ≡ doubled F.FEEDBACK n (bytes_of first) }
 {
     let mut next = first;
     for _ in 0..n {
@@ -36,7 +36,7 @@ fn raise<F: Compression>(first: Part<F>, n: usize) -> Part<F>
 
 // `first`, and then each entry twice the one before.
 fn doublings<F: Compression>(first: Part<F>) -> [Part<F>; 8]
-    ensures { Doublings F.feedback (bytes_of first) 8 result }
+    ensures { Doublings F.FEEDBACK (bytes_of first) 8 result }
 {
     let mut next = first;
     let mut entries = [first; 8];
@@ -51,7 +51,7 @@ impl<F: Compression> OffsetTable<F> {
     // The table of a mode whose L[0] is L* doubled `start` times.
     pub fn filled(f: &mut F, start: usize) -> OffsetTable<F>
         ensures kept { F.value f.new ≡ F.value f.old }
-        ensures filled { Filled F.width F.feedback start (star F.width (F.value f.old)) result }
+        ensures filled { Filled F.WIDTH F.FEEDBACK start (star F.WIDTH (F.value f.old)) result }
     {
         let star = Part::compressed(f, Part::zeros(), Part::zeros());
         OffsetTable {

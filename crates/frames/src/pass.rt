@@ -40,8 +40,8 @@ fn turn<F: Compression>(
     dst: &mut [u8],
 ) -> Pass<F>
     requires index { pass.index < 255 }
-    requires src { length src.now ≡ F.width }
-    requires dst { length dst.old ≡ F.width }
+    requires src { length src.now ≡ F.WIDTH }
+    requires dst { length dst.old ≡ F.WIDTH }
     ensures kept { F.value f.new ≡ F.value f.old }
     ensures turned { Turned (F.value f.old) table.now rule pass src.now dst.new result }
 {
@@ -71,10 +71,10 @@ pub fn pass_front<F: Compression>(
     requires src { length src.now ≤ 4096 }
     requires dst { length dst.old ≡ length src.now }
     ensures kept { F.value f.new ≡ F.value f.old }
-    ensures left { length src.now ≤ result.1 + F.width }
-    ensures going { Going F.width (F.value f.old) table.now rule start src.now dst.new result.0 result.1 }
+    ensures left { length src.now ≤ result.1 + F.WIDTH }
+    ensures going { Going F.WIDTH (F.value f.old) table.now rule start src.now dst.new result.0 result.1 }
 {
-    let w = F::block_len();
+    let w = F::WIDTH;
     let n = src.len();
     let mut pass = start;
     let mut at = 0;
@@ -100,7 +100,7 @@ pub fn pass_all<F: Compression>(
     requires src { length src.now ≤ 4096 }
     requires dst { length dst.old ≡ length src.now }
     ensures kept { F.value f.new ≡ F.value f.old }
-    ensures cipher { (L : ℕ → List ℕ) (d : List ℕ) → Entries table.now L → bytes_of start.offset ≡ delta L d 1 → cipher_of rule.direction src.now dst.new ≡ chain (next_by (F.value f.old) rule.feed (delta L d)) 1 (bytes_of start.value) (cut F.width (page_of rule.direction src.now dst.new)) }
+    ensures cipher { (L : ℕ → List ℕ) (d : List ℕ) → Entries table.now L → bytes_of start.offset ≡ delta L d 1 → cipher_of rule.direction src.now dst.new ≡ chain (next_by (F.value f.old) rule.feed (delta L d)) 1 (bytes_of start.value) (cut F.WIDTH (page_of rule.direction src.now dst.new)) }
 {
     let n = src.len();
     if n == 0 {

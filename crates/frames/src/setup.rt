@@ -17,6 +17,6 @@ pub struct Setup<F: Compression, const START: usize> {
     pub tag_len: usize,
     table: Option<OffsetTable<F>>,
     ghost low: { 4 ≤ tag_len },
-    ghost high: { tag_len ≤ F.width },
-    ghost filled: { IfSome table (λ t. Filled F.width F.feedback START (star F.width (F.value f)) t) } by { Prim.hlevel props },
+    ghost high: { tag_len ≤ F.WIDTH },
+    ghost filled: { IfSome table (λ t. Filled F.WIDTH F.FEEDBACK START (star F.WIDTH (F.value f)) t) } by { Prim.hlevel props },
 }

@@ -12,9 +12,9 @@ use compression::part::Part;
 
 // F of the left half under an offset and the right half; a short block is padded.
 pub fn hash<F: Compression>(f: &mut F, offset: Part<F>, block: &[u8]) -> Part<F>
-    requires { length block.now ≤ 2 * F.width }
+    requires { length block.now ≤ 2 * F.WIDTH }
     ensures kept { F.value f.new ≡ F.value f.old }
-    ensures hash { bytes_of result ≡ hashed F.width (F.value f.old) (bytes_of offset) (padded (2 * F.width) block.now) }
+    ensures hash { bytes_of result ≡ hashed F.WIDTH (F.value f.old) (bytes_of offset) (padded (2 * F.WIDTH) block.now) }
 {
     let (left, right) = Part::halves(block);
     Part::compressed(f, left ^ offset, right)
@@ -23,9 +23,9 @@ pub fn hash<F: Compression>(f: &mut F, offset: Part<F>, block: &[u8]) -> Part<F>
 // One block more.
 fn absorb<F: Compression>(f: &mut F, table: &OffsetTable<F>, pass: Pass<F>, block: &[u8]) -> Pass<F>
     requires index { pass.index < 255 }
-    requires block { length block.now ≤ 2 * F.width }
+    requires block { length block.now ≤ 2 * F.WIDTH }
     ensures kept { F.value f.new ≡ F.value f.old }
-    ensures absorbed { Absorbed F.width (F.value f.old) table.now pass block.now result }
+    ensures absorbed { Absorbed F.WIDTH (F.value f.old) table.now pass block.now result }
 {
     let index = pass.index + 1;
     let offset = table.next(pass.offset, index);
@@ -47,10 +47,10 @@ pub fn sum_front<'a, F: Compression>(
     requires start { start.index ≡ 0 }
     requires src { length src.now ≤ 4096 }
     ensures kept { F.value f.new ≡ F.value f.old }
-    ensures left { length result.1.now ≤ 2 * F.width }
-    ensures summing { Summing F.width (F.value f.old) table.now start src.now result.0 result.1.now }
+    ensures left { length result.1.now ≤ 2 * F.WIDTH }
+    ensures summing { Summing F.WIDTH (F.value f.old) table.now start src.now result.0 result.1.now }
 {
-    let size = 2 * F::block_len();
+    let size = 2 * F::WIDTH;
     let mut pass = start;
     let mut rest = src;
     while rest.len() > size {

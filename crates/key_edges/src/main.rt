@@ -58,8 +58,8 @@ fn show_parts<F: Compression + Drop>(
 
 // F(zeros, zeros), which tells one key from another.
 fn sample<F: Compression>(heap: Global, f: &mut F) -> Result<Vec<u8>, AllocError> {
-    let zeros = vec![in heap; 0u8; F::block_len()]?;
-    let mut out = vec![in heap; 0u8; F::block_len()]?;
+    let zeros = vec![in heap; 0u8; F::WIDTH]?;
+    let mut out = vec![in heap; 0u8; F::WIDTH]?;
     let _ = f.compress(&zeros, &zeros, &mut out);
     Ok(out)
 }

@@ -34,9 +34,9 @@ impl<W: Member<WIDTH>, const WIDTH: usize> Compression for Sha2<W, WIDTH> {
 
     const FEEDBACK: u16 = W::FEEDBACK;
 
-    ghost width = { WIDTH };
+    ghost WIDTH = { WIDTH };
 
-    ghost feedback = { W.FEEDBACK };
+    ghost FEEDBACK = { W.FEEDBACK };
 
     ghost value = { λ f. half_fixed W.sizes f.key };
 
@@ -47,14 +47,6 @@ impl<W: Member<WIDTH>, const WIDTH: usize> Compression for Sha2<W, WIDTH> {
     ghost sized = { λ f h m eh em. length-half_fixed W.sizes f.key h m ∙ sym W.fits.0 };
 
     ghost bytes = { λ f h m bh bm. Bytes-half_fixed W.sizes f.key h m };
-
-    fn block_len() -> usize {
-        WIDTH
-    }
-
-    fn reduction() -> u16 {
-        W::FEEDBACK
-    }
 
     fn compress(&mut self, h: &[u8], m: &[u8], out: &mut [u8]) -> Result<(), Refusal> {
         check_parts(WIDTH, h.len(), m.len(), out.len())?;

@@ -22,9 +22,9 @@ impl Compression for Mixer {
 
     const FEEDBACK: u16 = 0x8d05;
 
-    ghost width = { 48 };
+    ghost WIDTH = { 48 };
 
-    ghost feedback = { 0x8d05 };
+    ghost FEEDBACK = { 0x8d05 };
 
     ghost value = { λ _ h m. mixed h m };
 
@@ -35,14 +35,6 @@ impl Compression for Mixer {
     ghost sized = { λ f h m eh em. length-mixed h m ∙ omega arith };
 
     ghost bytes = { λ f h m bh bm. Bytes-mixed h m };
-
-    fn block_len() -> usize {
-        Self::WIDTH
-    }
-
-    fn reduction() -> u16 {
-        Self::FEEDBACK
-    }
 
     fn compress(&mut self, h: &[u8], m: &[u8], out: &mut [u8]) -> Result<(), Refusal> {
         check_parts(Self::WIDTH, h.len(), m.len(), out.len())?;

@@ -25,8 +25,8 @@ pub(crate) fn begin<F: Compression>(
     requires nonce { length nonce.now ≤ 31 }
     ensures kept { F.value f.new ≡ F.value f.old }
     ensures begun { result.index ≡ 1 }
-    ensures offset { (L : ℕ → List ℕ) → Entries table.now L → bytes_of result.offset ≡ delta L (nonce_offset F.width F.feedback (F.value f.old) nonce.now) 1 }
-    ensures value { bytes_of result.value ≡ F.value f.old (bytes_of result.offset) (digits F.width (8 * tag_len)) }
+    ensures offset { (L : ℕ → List ℕ) → Entries table.now L → bytes_of result.offset ≡ delta L (nonce_offset F.WIDTH F.FEEDBACK (F.value f.old) nonce.now) 1 }
+    ensures value { bytes_of result.value ≡ F.value f.old (bytes_of result.offset) (digits F.WIDTH (8 * tag_len)) }
 {
     let d = Part::compressed(f, Part::padded(nonce), Part::zeros());
     let offset = table.next(d, 1);
@@ -40,7 +40,7 @@ pub(crate) fn begin<F: Compression>(
 
 // 3·L* for a short last block, 2·L* for a full one.
 fn ending_offset<F: Compression>(star: Part<F>, short: bool) -> Part<F>
-    ensures { bytes_of result ≡ (if short then xor (double F.feedback (bytes_of star)) (bytes_of star) else double F.feedback (bytes_of star)) }
+    ensures { bytes_of result ≡ (if short then xor (double F.FEEDBACK (bytes_of star)) (bytes_of star) else double F.FEEDBACK (bytes_of star)) }
 {
     let two = star.double();
     if short { two ^ star } else { two }
@@ -55,15 +55,15 @@ fn last_block<F: Compression>(
     src: &[u8],
     dst: &mut [u8],
 ) -> Part<F>
-    requires src { length src.now ≤ F.width }
+    requires src { length src.now ≤ F.WIDTH }
     requires dst { length dst.old ≡ length src.now }
     ensures kept { F.value f.new ≡ F.value f.old }
     ensures dst { dst.new ≡ xor src.now (bytes_of pass.value) }
-    ensures tag { bytes_of result ≡ ending F.width F.feedback (F.value f.old) (bytes_of star) (bytes_of pass.offset) (bytes_of pass.value) (page_of direction src.now dst.new) }
+    ensures tag { bytes_of result ≡ ending F.WIDTH F.FEEDBACK (F.value f.old) (bytes_of star) (bytes_of pass.offset) (bytes_of pass.value) (page_of direction src.now dst.new) }
 {
     pass.value.xor_to(src, dst);
     let page = direction.page(src, dst);
-    let ending = ending_offset(star, src.len() < F::block_len());
+    let ending = ending_offset(star, src.len() < F::WIDTH);
     Part::compressed(f, pass.value ^ pass.offset ^ ending, Part::padded(page))
 }
 
@@ -76,13 +76,13 @@ pub(crate) fn run_page<F: Compression>(
     src: &[u8],
     dst: &mut [u8],
 ) -> Part<F>
-    requires table { Filled F.width F.feedback 2 (star F.width (F.value f.old)) table.now }
+    requires table { Filled F.WIDTH F.FEEDBACK 2 (star F.WIDTH (F.value f.old)) table.now }
     requires start { start.index ≡ 1 }
     requires src { length src.now ≤ 4096 }
     requires dst { length dst.old ≡ length src.now }
     ensures kept { F.value f.new ≡ F.value f.old }
-    ensures cipher { (d : List ℕ) → bytes_of start.offset ≡ delta (entry F.width F.feedback (F.value f.old)) d 1 → cipher_of direction src.now dst.new ≡ cipher_from F.width F.feedback (F.value f.old) d (bytes_of start.value) (page_of direction src.now dst.new) }
-    ensures tag { (d : List ℕ) → bytes_of start.offset ≡ delta (entry F.width F.feedback (F.value f.old)) d 1 → bytes_of result ≡ tag_from F.width F.feedback (F.value f.old) d (bytes_of start.value) (page_of direction src.now dst.new) }
+    ensures cipher { (d : List ℕ) → bytes_of start.offset ≡ delta (entry F.WIDTH F.FEEDBACK (F.value f.old)) d 1 → cipher_of direction src.now dst.new ≡ cipher_from F.WIDTH F.FEEDBACK (F.value f.old) d (bytes_of start.value) (page_of direction src.now dst.new) }
+    ensures tag { (d : List ℕ) → bytes_of start.offset ≡ delta (entry F.WIDTH F.FEEDBACK (F.value f.old)) d 1 → bytes_of result ≡ tag_from F.WIDTH F.FEEDBACK (F.value f.old) d (bytes_of start.value) (page_of direction src.now dst.new) }
 {
     let n = src.len();
     if n == 0 {
@@ -110,10 +110,10 @@ fn ad_end<F: Compression>(table: &OffsetTable<F>, short: bool, pass: Pass<F>) ->
 
 // The associated data's part of the tag.
 pub(crate) fn sum_ad<F: Compression>(f: &mut F, table: &OffsetTable<F>, ad: &[u8]) -> Part<F>
-    requires table { Filled F.width F.feedback 2 (star F.width (F.value f.old)) table.now }
+    requires table { Filled F.WIDTH F.FEEDBACK 2 (star F.WIDTH (F.value f.old)) table.now }
     requires ad { length ad.now ≤ 1024 }
     ensures kept { F.value f.new ≡ F.value f.old }
-    ensures sum { bytes_of result ≡ ad_tag F.width F.feedback (F.value f.old) ad.now }
+    ensures sum { bytes_of result ≡ ad_tag F.WIDTH F.FEEDBACK (F.value f.old) ad.now }
 {
     let zeros = Part::zeros();
     if ad.is_empty() {
@@ -125,6 +125,6 @@ pub(crate) fn sum_ad<F: Compression>(f: &mut F, table: &OffsetTable<F>, ad: &[u8
         value: zeros,
     };
     let (pass, last) = sum_front(f, table, start, ad);
-    let offset = ad_end(table, last.len() < 2 * F::block_len(), pass);
+    let offset = ad_end(table, last.len() < 2 * F::WIDTH, pass);
     pass.value ^ hash(f, offset, last)
 }

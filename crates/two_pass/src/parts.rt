@@ -24,7 +24,7 @@ fn add_if<F: Compression>(set: bool, x: Part<F>, sum: Part<F>) -> Part<F>
 // j·L*, where j is the kind's number.
 #[tactic(auto, unfolding(crate::specs::TwoPass::times))]
 fn times<F: Compression>(star: Part<F>, kind: Kind) -> Part<F>
-    ensures { bytes_of result ≡ times F.width F.feedback (bytes_of star) (number_of kind) }
+    ensures { bytes_of result ≡ times F.WIDTH F.FEEDBACK (bytes_of star) (number_of kind) }
 {
     let j = kind.number();
     let two = star.double();
@@ -38,7 +38,7 @@ fn times<F: Compression>(star: Part<F>, kind: Kind) -> Part<F>
 pub(crate) fn begin<F: Compression>(f: &mut F, nonce: &[u8]) -> Part<F>
     requires { length nonce.now ≤ 31 }
     ensures kept { F.value f.new ≡ F.value f.old }
-    ensures offset { bytes_of result ≡ nonce_offset F.width F.feedback (F.value f.old) nonce.now }
+    ensures offset { bytes_of result ≡ nonce_offset F.WIDTH F.FEEDBACK (F.value f.old) nonce.now }
 {
     Part::compressed(f, Part::padded(nonce), Part::zeros())
 }
@@ -53,10 +53,10 @@ fn sum_to_last<'a, F: Compression>(
     sum: Part<F>,
     src: &'a [u8],
 ) -> (Pass<F>, &'a [u8])
-    requires table { Filled F.width F.feedback 3 (star F.width (F.value f.old)) table.now }
+    requires table { Filled F.WIDTH F.FEEDBACK 3 (star F.WIDTH (F.value f.old)) table.now }
     requires src { length src.now ≤ 4096 }
     ensures kept { F.value f.new ≡ F.value f.old }
-    ensures summed { Summed F.width F.feedback (F.value f.old) kinds (bytes_of d) (bytes_of sum) src.now result.0 result.1.now }
+    ensures summed { Summed F.WIDTH F.FEEDBACK (F.value f.old) kinds (bytes_of d) (bytes_of sum) src.now result.0 result.1.now }
 {
     let kind = times(table.star, kinds.front);
     let start = Pass {
@@ -66,7 +66,7 @@ fn sum_to_last<'a, F: Compression>(
     };
     let (pass, last) = sum_front(f, table, start, src);
     let index = pass.index + 1;
-    let last_kind = times(table.star, kinds.last(last.len(), 2 * F::block_len()));
+    let last_kind = times(table.star, kinds.last(last.len(), 2 * F::WIDTH));
     let offset = table.next(pass.offset, index) ^ kind ^ last_kind;
     let at_last = Pass {
         index,
@@ -83,10 +83,10 @@ pub(crate) fn sum_ad<F: Compression>(
     d: Part<F>,
     ad: &[u8],
 ) -> Part<F>
-    requires table { Filled F.width F.feedback 3 (star F.width (F.value f.old)) table.now }
+    requires table { Filled F.WIDTH F.FEEDBACK 3 (star F.WIDTH (F.value f.old)) table.now }
     requires ad { length ad.now ≤ 1024 }
     ensures kept { F.value f.new ≡ F.value f.old }
-    ensures sum { bytes_of result ≡ ad_sum F.width F.feedback (F.value f.old) (bytes_of d) ad.now }
+    ensures sum { bytes_of result ≡ ad_sum F.WIDTH F.FEEDBACK (F.value f.old) (bytes_of d) ad.now }
 {
     let zeros = Part::zeros();
     if ad.is_empty() {
@@ -104,10 +104,10 @@ pub(crate) fn hash_page<F: Compression>(
     sum: Part<F>,
     page: &[u8],
 ) -> Part<F>
-    requires table { Filled F.width F.feedback 3 (star F.width (F.value f.old)) table.now }
+    requires table { Filled F.WIDTH F.FEEDBACK 3 (star F.WIDTH (F.value f.old)) table.now }
     requires page { length page.now ≤ 4096 }
     ensures kept { F.value f.new ≡ F.value f.old }
-    ensures tag { bytes_of result ≡ tag_block F.width F.feedback (F.value f.old) (bytes_of d) (bytes_of sum) page.now }
+    ensures tag { bytes_of result ≡ tag_block F.WIDTH F.FEEDBACK (F.value f.old) (bytes_of d) (bytes_of sum) page.now }
 {
     let (pass, last) = sum_to_last(f, table, Kinds::PAGE, d, sum, page);
     hash(f, pass.value ^ pass.offset, last)
@@ -116,7 +116,7 @@ pub(crate) fn hash_page<F: Compression>(
 // ⟨8τ⟩.
 pub(crate) fn tag_bits<F: Compression>(tag_len: usize) -> Part<F>
     requires { tag_len ≤ 64 }
-    ensures { bytes_of result ≡ digits F.width (8 * tag_len) }
+    ensures { bytes_of result ≡ digits F.WIDTH (8 * tag_len) }
 {
     Part::number(8 * tag_len)
 }
@@ -131,7 +131,7 @@ pub(crate) fn first_block<F: Compression>(
 ) -> Pass<F>
     ensures kept { F.value f.new ≡ F.value f.old }
     ensures begun { result.index ≡ 1 }
-    ensures offset { (L : ℕ → List ℕ) → Entries table.now L → bytes_of result.offset ≡ delta L (xor (bytes_of d) (times F.width F.feedback (bytes_of table.now.star) 6)) 1 }
+    ensures offset { (L : ℕ → List ℕ) → Entries table.now L → bytes_of result.offset ≡ delta L (xor (bytes_of d) (times F.WIDTH F.FEEDBACK (bytes_of table.now.star) 6)) 1 }
     ensures value { bytes_of result.value ≡ F.value f.old (xor (bytes_of v) (bytes_of result.offset)) (bytes_of bits) }
 {
     let offset = table.next(d ^ times(table.star, Kind::Keystream), 1);

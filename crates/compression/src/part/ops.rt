@@ -12,7 +12,7 @@ use std::ops::BitXor;
 impl<F: Compression> Part<F> {
     // The front of an array.
     fn front(bytes: [u8; LONGEST]) -> Part<F>
-        ensures { bytes_of result ≡ take F.width bytes }
+        ensures { bytes_of result ≡ take F.WIDTH bytes }
     {
         Part {
             bytes,
@@ -22,14 +22,14 @@ impl<F: Compression> Part<F> {
 
     // Zero bytes.
     pub fn zeros() -> Part<F>
-        ensures { bytes_of result ≡ zeros F.width }
+        ensures { bytes_of result ≡ zeros F.WIDTH }
     {
         Part::front([0; LONGEST])
     }
 
     // A copy of as many bytes as the width.
     pub fn of(bytes: &[u8]) -> Part<F>
-        requires { length bytes.now ≡ F.width }
+        requires { length bytes.now ≡ F.WIDTH }
         ensures { bytes_of result ≡ bytes.now }
     {
         let n = bytes.len();
@@ -40,10 +40,10 @@ impl<F: Compression> Part<F> {
 
     // A copy of bytes, filled by 80 and zeros if they are fewer than the width.
     pub fn padded(bytes: &[u8]) -> Part<F>
-        requires { length bytes.now ≤ F.width }
-        ensures { bytes_of result ≡ padded F.width bytes.now }
+        requires { length bytes.now ≤ F.WIDTH }
+        ensures { bytes_of result ≡ padded F.WIDTH bytes.now }
     {
-        let w = F::block_len();
+        let w = F::WIDTH;
         let mut room = [0; LONGEST];
         pad_into(&mut room[..w], bytes);
         Part::front(room)
@@ -51,10 +51,10 @@ impl<F: Compression> Part<F> {
 
     // A copy of bytes, filled by zeros.
     pub fn filled(bytes: &[u8]) -> Part<F>
-        requires { length bytes.now ≤ F.width }
-        ensures { bytes_of result ≡ filled F.width bytes.now }
+        requires { length bytes.now ≤ F.WIDTH }
+        ensures { bytes_of result ≡ filled F.WIDTH bytes.now }
     {
-        let w = F::block_len();
+        let w = F::WIDTH;
         let mut room = [0; LONGEST];
         fill_into(&mut room[..w], bytes);
         Part::front(room)
@@ -62,9 +62,9 @@ impl<F: Compression> Part<F> {
 
     // ⟨t⟩.
     pub fn number(t: usize) -> Part<F>
-        ensures { bytes_of result ≡ digits F.width t }
+        ensures { bytes_of result ≡ digits F.WIDTH t }
     {
-        let w = F::block_len();
+        let w = F::WIDTH;
         let mut room = [0; LONGEST];
         number_into(&mut room[..w], t);
         Part::front(room)
@@ -72,19 +72,19 @@ impl<F: Compression> Part<F> {
 
     pub fn as_slice(&self) -> &[u8]
         ensures bytes { result.now ≡ bytes_of self.now }
-        ensures long { length result.now ≡ F.width }
+        ensures long { length result.now ≡ F.WIDTH }
     {
-        let w = F::block_len();
+        let w = F::WIDTH;
         &self.bytes[..w]
     }
 
     // The two halves of a block of bytes, filled by 80 and zeros if it is short.
     pub fn halves(block: &[u8]) -> (Part<F>, Part<F>)
-        requires { length block.now ≤ 2 * F.width }
-        ensures left { bytes_of result.0 ≡ take F.width (padded (2 * F.width) block.now) }
-        ensures right { bytes_of result.1 ≡ drop F.width (padded (2 * F.width) block.now) }
+        requires { length block.now ≤ 2 * F.WIDTH }
+        ensures left { bytes_of result.0 ≡ take F.WIDTH (padded (2 * F.WIDTH) block.now) }
+        ensures right { bytes_of result.1 ≡ drop F.WIDTH (padded (2 * F.WIDTH) block.now) }
     {
-        let w = F::block_len();
+        let w = F::WIDTH;
         if block.len() < w {
             return (Part::padded(block), Part::zeros());
         }
@@ -94,7 +94,7 @@ impl<F: Compression> Part<F> {
 
     // Writes the first bytes to `out`.
     pub fn write_front(&self, out: &mut [u8])
-        requires { length out.old ≤ F.width }
+        requires { length out.old ≤ F.WIDTH }
         ensures { out.new ≡ take (length out.old) (bytes_of self.now) }
     {
         let n = out.len();
@@ -103,7 +103,7 @@ impl<F: Compression> Part<F> {
 
     // Writes `src` ⊕ the first bytes to `dst`.
     pub fn xor_to(&self, src: &[u8], dst: &mut [u8])
-        requires src { length src.now ≤ F.width }
+        requires src { length src.now ≤ F.WIDTH }
         requires dst { length dst.old ≡ length src.now }
         ensures { dst.new ≡ xor src.now (bytes_of self.now) }
     {
@@ -122,7 +122,7 @@ impl<F: Compression> Part<F> {
     fn shifted(self) -> Part<F>
         ensures { bytes_of result ≡ shifted (bytes_of self) }
     {
-        let w = F::block_len();
+        let w = F::WIDTH;
         let mut bytes = self.bytes;
         shift_left(&mut bytes[..w]);
         Part::front(bytes)
@@ -130,13 +130,13 @@ impl<F: Compression> Part<F> {
 
     // 2·x.
     pub fn double(self) -> Part<F>
-        ensures { bytes_of result ≡ double F.feedback (bytes_of self) }
+        ensures { bytes_of result ≡ double F.FEEDBACK (bytes_of self) }
     {
         let shifted = self.shifted();
         if !self.top_bit() {
             return shifted;
         }
-        shifted ^ Part::number(usize::from(F::reduction()))
+        shifted ^ Part::number(usize::from(F::FEEDBACK))
     }
 
     // F(h, m).
@@ -144,7 +144,7 @@ impl<F: Compression> Part<F> {
         ensures kept { F.value f.new ≡ F.value f.old }
         ensures value { bytes_of result ≡ F.value f.old (bytes_of h) (bytes_of m) }
     {
-        let w = F::block_len();
+        let w = F::WIDTH;
         let mut out = [0; LONGEST];
         match f.compress(h.as_slice(), m.as_slice(), &mut out[..w]) {
             Ok(()) => Part::front(out),
@@ -160,7 +160,7 @@ impl<F: Compression> BitXor<Part<F>> for Part<F> {
     ghost bitxor_gives = { λ a b r. Xored (bytes_of a) (bytes_of b) (bytes_of r) };
 
     fn bitxor(self, rhs: Part<F>) -> Part<F> {
-        let w = F::block_len();
+        let w = F::WIDTH;
         let mut room = [0; LONGEST];
         rhs.xor_to(self.as_slice(), &mut room[..w]);
         Part::front(room)

@@ -24,11 +24,11 @@ impl<F: Compression, const START: usize> Setup<F, START> {
 
     // Sets the tag's length, or refuses one outside 4 to the width; the old one then stays.
     pub fn set_tag_len(&mut self, n: usize) -> Result<(), Refusal>
-        ensures answer { result ≡ tag_answer F.width n }
+        ensures answer { result ≡ tag_answer F.WIDTH n }
         ensures f { self.new.f ≡ self.old.f }
         ensures tag { self.new.tag_len ≡ (if is_ok result then n else self.old.tag_len) }
     {
-        check_tag_len(F::block_len(), n)?;
+        check_tag_len(F::WIDTH, n)?;
         self.tag_len = n;
         Ok(())
     }
@@ -36,7 +36,7 @@ impl<F: Compression, const START: usize> Setup<F, START> {
     pub fn table(&mut self) -> OffsetTable<F>
         ensures kept { F.value self.new.f ≡ F.value self.old.f }
         ensures same { self.new.tag_len ≡ self.old.tag_len }
-        ensures filled { Filled F.width F.feedback START (star F.width (F.value self.old.f)) result }
+        ensures filled { Filled F.WIDTH F.FEEDBACK START (star F.WIDTH (F.value self.old.f)) result }
     {
         if let Some(table) = self.table {
             return table;

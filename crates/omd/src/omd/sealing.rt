@@ -24,7 +24,7 @@ use scheme::mode::Mode;
 impl<F: Compression> Omd<F> {
     // OMD over `f`, with a tag of 16 bytes.
     pub fn new(f: F) -> Self
-        ensures { means F.width F.feedback F.value result ≡ omd F.width F.feedback (F.value f) 16 }
+        ensures { means F.WIDTH F.FEEDBACK F.value result ≡ omd F.WIDTH F.FEEDBACK (F.value f) 16 }
     {
         Omd {
             setup: Setup::new(f),
@@ -33,8 +33,8 @@ impl<F: Compression> Omd<F> {
 
     // Sets the tag's length, or refuses one outside 4 to the width; the old one then stays.
     pub fn set_tag_len(&mut self, n: usize) -> Result<(), Refusal>
-        ensures answer { result ≡ tag_answer F.width n }
-        ensures means { means F.width F.feedback F.value self.new ≡ (if is_ok result then omd F.width F.feedback (F.value self.old.setup.f) n else means F.width F.feedback F.value self.old) }
+        ensures answer { result ≡ tag_answer F.WIDTH n }
+        ensures means { means F.WIDTH F.FEEDBACK F.value self.new ≡ (if is_ok result then omd F.WIDTH F.FEEDBACK (F.value self.old.setup.f) n else means F.WIDTH F.FEEDBACK F.value self.old) }
     {
         self.setup.set_tag_len(n)
     }
@@ -46,8 +46,8 @@ impl<F: Compression> Omd<F> {
         requires dst { length dst.old ≡ length src.now }
         ensures kept { F.value self.new.setup.f ≡ F.value self.old.setup.f }
         ensures same { self.new.setup.tag_len ≡ self.old.setup.tag_len }
-        ensures cipher { cipher_of direction src.now dst.new ≡ cipher F.width F.feedback (F.value self.old.setup.f) self.old.setup.tag_len inputs.entry.nonce.now (page_of direction src.now dst.new) }
-        ensures tag { bytes_of result ≡ xor (page_tag F.width F.feedback (F.value self.old.setup.f) self.old.setup.tag_len inputs.entry.nonce.now (page_of direction src.now dst.new)) (ad_tag F.width F.feedback (F.value self.old.setup.f) inputs.entry.ad.now) }
+        ensures cipher { cipher_of direction src.now dst.new ≡ cipher F.WIDTH F.FEEDBACK (F.value self.old.setup.f) self.old.setup.tag_len inputs.entry.nonce.now (page_of direction src.now dst.new) }
+        ensures tag { bytes_of result ≡ xor (page_tag F.WIDTH F.FEEDBACK (F.value self.old.setup.f) self.old.setup.tag_len inputs.entry.nonce.now (page_of direction src.now dst.new)) (ad_tag F.WIDTH F.FEEDBACK (F.value self.old.setup.f) inputs.entry.ad.now) }
     {
         let tag_len = self.setup.tag_len;
         let table = self.setup.table();
@@ -63,7 +63,7 @@ impl<F: Compression> Mode for Omd<F> {
 
     ghost end = { Back };
 
-    ghost E = { λ s. sealed F.width F.feedback (F.value s.setup.f) s.setup.tag_len };
+    ghost E = { λ s. sealed F.WIDTH F.FEEDBACK (F.value s.setup.f) s.setup.tag_len };
 
     ghost lawful = { λ s.
         let m = F.Compression in
@@ -76,8 +76,8 @@ impl<F: Compression> Mode for Omd<F> {
           tag_high = omega arith;
           ad_high = omega arith;
           page_high = omega arith;
-          longer = λ n a p t h. sealed_length m.width m.feedback (omega arith) (m.value s.setup.f) (m.sized s.setup.f) s.setup.tag_len (omega arith) n a p;
-          one_page = λ n a p q t h i e. sealed_same m.width m.feedback (omega arith) (m.value s.setup.f) (m.sized s.setup.f) s.setup.tag_len (omega arith) n a p q e;
+          longer = λ n a p t h. sealed_length m.WIDTH m.FEEDBACK (omega arith) (m.value s.setup.f) (m.sized s.setup.f) s.setup.tag_len (omega arith) n a p;
+          one_page = λ n a p q t h i e. sealed_same m.WIDTH m.FEEDBACK (omega arith) (m.value s.setup.f) (m.sized s.setup.f) s.setup.tag_len (omega arith) n a p q e;
         } };
 
     fn tag_len(&self) -> usize {

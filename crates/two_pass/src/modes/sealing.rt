@@ -28,7 +28,7 @@ use std::marker::PhantomData;
 impl<F: Compression, K: Chaining> TwoPass<F, K> {
     // The mode over `f`, with a tag of 16 bytes.
     pub fn new(f: F) -> Self
-        ensures { means F.width F.feedback F.value K.keystream result ≡ two_pass F.width F.feedback (F.value f) K.keystream 16 }
+        ensures { means F.WIDTH F.FEEDBACK F.value K.keystream result ≡ two_pass F.WIDTH F.FEEDBACK (F.value f) K.keystream 16 }
     {
         TwoPass {
             setup: Setup::new(f),
@@ -39,8 +39,8 @@ impl<F: Compression, K: Chaining> TwoPass<F, K> {
     // Sets the tag's length, or refuses one outside 4 to the width; the old one then stays.
     // Kept: the lines of OMD's set-up. A struct that shared them would be read through at each use.
     pub fn set_tag_len(&mut self, n: usize) -> Result<(), Refusal>
-        ensures answer { result ≡ tag_answer F.width n }
-        ensures means { means F.width F.feedback F.value K.keystream self.new ≡ (if is_ok result then two_pass F.width F.feedback (F.value self.old.setup.f) K.keystream n else means F.width F.feedback F.value K.keystream self.old) }
+        ensures answer { result ≡ tag_answer F.WIDTH n }
+        ensures means { means F.WIDTH F.FEEDBACK F.value K.keystream self.new ≡ (if is_ok result then two_pass F.WIDTH F.FEEDBACK (F.value self.old.setup.f) K.keystream n else means F.WIDTH F.FEEDBACK F.value K.keystream self.old) }
     {
         self.setup.set_tag_len(n)
     }
@@ -53,11 +53,11 @@ impl<F: Compression, K: Chaining> TwoPass<F, K> {
         inputs: Inputs,
         page: &[u8],
     ) -> Part<F>
-        requires filled { Filled F.width F.feedback 3 (star F.width (F.value self.old.setup.f)) table.now }
+        requires filled { Filled F.WIDTH F.FEEDBACK 3 (star F.WIDTH (F.value self.old.setup.f)) table.now }
         requires page { length page.now ≤ 4096 }
         ensures kept { F.value self.new.setup.f ≡ F.value self.old.setup.f }
         ensures same { self.new.setup.tag_len ≡ self.old.setup.tag_len }
-        ensures tag { bytes_of result ≡ tag_block F.width F.feedback (F.value self.old.setup.f) (bytes_of d) (ad_sum F.width F.feedback (F.value self.old.setup.f) (bytes_of d) inputs.entry.ad.now) page.now }
+        ensures tag { bytes_of result ≡ tag_block F.WIDTH F.FEEDBACK (F.value self.old.setup.f) (bytes_of d) (ad_sum F.WIDTH F.FEEDBACK (F.value self.old.setup.f) (bytes_of d) inputs.entry.ad.now) page.now }
     {
         let f = &mut self.setup.f;
         let sum = sum_ad(f, table, d, inputs.ad);
@@ -74,12 +74,12 @@ impl<F: Compression, K: Chaining> TwoPass<F, K> {
         src: &[u8],
         dst: &mut [u8],
     )
-        requires filled { Filled F.width F.feedback 3 (star F.width (F.value self.old.setup.f)) table.now }
+        requires filled { Filled F.WIDTH F.FEEDBACK 3 (star F.WIDTH (F.value self.old.setup.f)) table.now }
         requires src { length src.now ≤ 4096 }
         requires dst { length dst.old ≡ length src.now }
         ensures kept { F.value self.new.setup.f ≡ F.value self.old.setup.f }
         ensures same { self.new.setup.tag_len ≡ self.old.setup.tag_len }
-        ensures cipher { cipher_of direction src.now dst.new ≡ cipher F.width F.feedback (F.value self.old.setup.f) (bytes_of d) K.keystream self.old.setup.tag_len (bytes_of v) (page_of direction src.now dst.new) }
+        ensures cipher { cipher_of direction src.now dst.new ≡ cipher F.WIDTH F.FEEDBACK (F.value self.old.setup.f) (bytes_of d) K.keystream self.old.setup.tag_len (bytes_of v) (page_of direction src.now dst.new) }
     {
         let bits = tag_bits(self.setup.tag_len);
         let f = &mut self.setup.f;
@@ -97,7 +97,7 @@ impl<F: Compression, K: Chaining> Mode for TwoPass<F, K> {
 
     ghost end = { Front };
 
-    ghost E = { λ s. sealed F.width F.feedback (F.value s.setup.f) K.keystream s.setup.tag_len };
+    ghost E = { λ s. sealed F.WIDTH F.FEEDBACK (F.value s.setup.f) K.keystream s.setup.tag_len };
 
     ghost lawful = { λ s.
         let m = F.Compression in
@@ -105,7 +105,7 @@ impl<F: Compression, K: Chaining> Mode for TwoPass<F, K> {
         let most = m.wide.1 in
         let low = s.setup.low in
         let high = s.setup.high in
-        let w = m.width in
+        let w = m.WIDTH in
         let V = m.value s.setup.f in
         let k = K.keystream in
         record {
@@ -113,8 +113,8 @@ impl<F: Compression, K: Chaining> Mode for TwoPass<F, K> {
           tag_high = omega arith;
           ad_high = omega arith;
           page_high = omega arith;
-          longer = λ n a p t h. body_long w m.feedback (omega arith) V (m.sized s.setup.f) (nonce_offset w m.feedback V n) (length-nonce w m.feedback (omega arith) V (m.sized s.setup.f) n) k s.setup.tag_len (omega arith) a p;
-          one_page = λ n a p q t h i e. body_same w m.feedback (omega arith) V (m.sized s.setup.f) (nonce_offset w m.feedback V n) (length-nonce w m.feedback (omega arith) V (m.sized s.setup.f) n) k s.setup.tag_len (omega arith) a p q e;
+          longer = λ n a p t h. body_long w m.FEEDBACK (omega arith) V (m.sized s.setup.f) (nonce_offset w m.FEEDBACK V n) (length-nonce w m.FEEDBACK (omega arith) V (m.sized s.setup.f) n) k s.setup.tag_len (omega arith) a p;
+          one_page = λ n a p q t h i e. body_same w m.FEEDBACK (omega arith) V (m.sized s.setup.f) (nonce_offset w m.FEEDBACK V n) (length-nonce w m.FEEDBACK (omega arith) V (m.sized s.setup.f) n) k s.setup.tag_len (omega arith) a p q e;
         } };
 
     fn tag_len(&self) -> usize {

@@ -8,7 +8,7 @@ loop-rest-preserved g c =
     let m = g.F.Compression in
     let v = c.loop-rest.invariant.0 in
     let s = c.split_at in
-    let t : Absorbed m.width (m.value c.args.f.now) c.args.table.now c.loop-rest.pass s.result.0.now c.absorb-pass.result = rw v at c.absorb-pass.ensures.absorbed in (
+    let t : Absorbed m.WIDTH (m.value c.args.f.now) c.args.table.now c.loop-rest.pass s.result.0.now c.absorb-pass.result = rw v at c.absorb-pass.ensures.absorbed in (
       c.absorb-pass.ensures.kept ∙ v,
-      summing_at m.width g.met.F.Compression.wide.0 (m.value c.args.f.now) c.args.table.now c.args.start c.args.src.now (2 * c.block_len-size.result) (ap (λ n. 2 * n) c.block_len-size.ensures) c.loop-rest.pass c.absorb-pass.result c.loop-rest.rest.now _ _ (omega arith) s.ensures.front s.ensures.back c.loop-rest.invariant.1 t,
+      summing_at m.WIDTH g.met.F.Compression.wide.0 (m.value c.args.f.now) c.args.table.now c.args.start c.args.src.now (2 * c.WIDTH-size.result) (ap (λ n. 2 * n) c.WIDTH-size.ensures) c.loop-rest.pass c.absorb-pass.result c.loop-rest.rest.now _ _ (omega arith) s.ensures.front s.ensures.back c.loop-rest.invariant.1 t,
     )

@@ -10,8 +10,8 @@ use Rattle.omd.proofs.parts.run_page.Goals as goal
 pub returns-then-n-eq0 : goal.returns-then-n-eq0
 returns-then-n-eq0 g c =
     let m = g.F.Compression in
-    let w = m.width in
-    let fb = m.feedback in
+    let w = m.WIDTH in
+    let fb = m.FEEDBACK in
     let V = m.value c.args.f.now in
     record {
       kept = refl;
@@ -22,8 +22,8 @@ returns-then-n-eq0 g c =
 pub returns : goal.returns
 returns g c =
     let m = g.F.Compression in
-    let w = m.width in
-    let fb = m.feedback in
+    let w = m.WIDTH in
+    let fb = m.FEEDBACK in
     let z = g.met.F.Compression.wide.0 in
     let V = m.value c.args.f.now in
     let p = c.pass_front-at in

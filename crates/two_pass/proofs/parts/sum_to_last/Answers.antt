@@ -8,4 +8,4 @@ returns-clause-summed g c =
     let m = g.F.Compression in
     let q = g.met.F.Compression in
     let s = c.sum_front in
-    summed_to m.width m.feedback q.wide.0 (λ p. p.long) (m.value c.args.f.now) c.args.kinds c.args.d (bytes_of c.args.sum) c.args.src.now s.result.1.now c.args.table.now c.requires.table _ s.result.0 c.times-kind.result c.next.result c.bitxor-2.result c.times-last_kind.result c.bitxor-offset.result c.last.result _ c.times-kind.ensures c.bitxor.ensures.is refl s.ensures.summing s.ensures.left c.block_len.ensures c.last.ensures c.times-last_kind.ensures c.next.ensures c.bitxor-2.ensures.is c.bitxor-offset.ensures.is
+    summed_to m.WIDTH m.FEEDBACK q.wide.0 (λ p. p.long) (m.value c.args.f.now) c.args.kinds c.args.d (bytes_of c.args.sum) c.args.src.now s.result.1.now c.args.table.now c.requires.table _ s.result.0 c.times-kind.result c.next.result c.bitxor-2.result c.times-last_kind.result c.bitxor-offset.result c.last.result _ c.times-kind.ensures c.bitxor.ensures.is refl s.ensures.summing s.ensures.left c.WIDTH.ensures c.last.ensures c.times-last_kind.ensures c.next.ensures c.bitxor-2.ensures.is c.bitxor-offset.ensures.is

@@ -19,6 +19,6 @@ returns-clause-recovered g c =
     let block = bytes_of c.run.result in
     let tag : take t c.write_front.new.out ≡ take t block = ap (take t) (c.write_front.ensures ∙ ap (λ i. take i block) c.requires.out) ∙ take-take t t block (omega arith) in
     record {
-      tells = λ e. tells m.width m.feedback (omega arith) (m.value s.setup.f) (q.sized s.setup.f) s.setup.tag_len s.setup.high n a k c.args.body.now c.run.new.dst (bytes_of c.run.result) (omega arith) c.requires.body cipher c.run.ensures.tag (sym tag ∙ e);
-      only = λ p e. tag ∙ only m.width m.feedback (omega arith) (m.value s.setup.f) (q.sized s.setup.f) s.setup.tag_len s.setup.high n a k c.args.body.now c.run.new.dst (bytes_of c.run.result) (omega arith) c.requires.body cipher c.run.ensures.tag p e;
+      tells = λ e. tells m.WIDTH m.FEEDBACK (omega arith) (m.value s.setup.f) (q.sized s.setup.f) s.setup.tag_len s.setup.high n a k c.args.body.now c.run.new.dst (bytes_of c.run.result) (omega arith) c.requires.body cipher c.run.ensures.tag (sym tag ∙ e);
+      only = λ p e. tag ∙ only m.WIDTH m.FEEDBACK (omega arith) (m.value s.setup.f) (q.sized s.setup.f) s.setup.tag_len s.setup.high n a k c.args.body.now c.run.new.dst (bytes_of c.run.result) (omega arith) c.requires.body cipher c.run.ensures.tag p e;
     }

@@ -22,5 +22,5 @@ returns-clause-recovered g c =
     let back = part_end t (length whole - t) whole (omega arith) ∙ sym c.split_at.ensures.back in
     let block = bytes_of c.tag_block.result in
     let tag : take s.tag_len c.write_front.new.out ≡ take s.tag_len block = ap (take s.tag_len) (c.write_front.ensures ∙ ap (λ i. take i block) c.requires.out) ∙ take-take s.tag_len s.tag_len block (omega arith) in
-    let r = recovers m.width m.feedback (omega arith) (m.value s.f) (q.sized s.f) k s.tag_len s.high c.args.inputs.nonce.now c.args.inputs.ad.now (bytes_of c.begin-d.result) (c.begin-d.ensures.offset ∙ ap (λ V. nonce_offset m.width m.feedback V c.args.inputs.nonce.now) c.table-table.ensures.kept) _ _ v1 v2 t _ _ refl refl c.table-table.ensures.same whole c.encipher.new.dst block (bytes_of c.filled.result) (omega arith) (c.filled.ensures ∙ ap (filled _) front) (back ∙ c.encipher.ensures.cipher) c.tag_block.ensures.tag in
+    let r = recovers m.WIDTH m.FEEDBACK (omega arith) (m.value s.f) (q.sized s.f) k s.tag_len s.high c.args.inputs.nonce.now c.args.inputs.ad.now (bytes_of c.begin-d.result) (c.begin-d.ensures.offset ∙ ap (λ V. nonce_offset m.WIDTH m.FEEDBACK V c.args.inputs.nonce.now) c.table-table.ensures.kept) _ _ v1 v2 t _ _ refl refl c.table-table.ensures.same whole c.encipher.new.dst block (bytes_of c.filled.result) (omega arith) (c.filled.ensures ∙ ap (filled _) front) (back ∙ c.encipher.ensures.cipher) c.tag_block.ensures.tag in
     record { tells = λ e. r.tells (sym tag ∙ e); only = λ p e. tag ∙ r.only p e }
