@@ -1,7 +1,7 @@
 -- A sealed page comes back.
 use Rattle.std.proofs.Common.{◌≡◌, ℕ, ◌≤◌, Bool, true, false, cond, ltb, List, ◌++◌, length, take, drop, Some, None, Ok, Err, Option, Result, MatchResult, get_or, ◌<◌, refl, sym, ap, ap₂, subst, ◌∙◌, arith}
 use Rattle.std.proofs.lemmas.Bool.{ltb-false, le-ltb}
-use Rattle.std.proofs.lemmas.List.{take-append-drop}
+use Rattle.std.proofs.lemmas.List.{length-append, take-append-drop}
 use Rattle.std.proofs.Math.Seq.{take-append_seam}
 use Rattle.std.proofs.ByRecursion.{All-from_get_or}
 use Rattle.base.specs.declared.refusal.Refusal.{Refusal}
@@ -47,10 +47,11 @@ module _ (m : Meaning) (law : Lawful m) (n a p before body back : List ℕ) (k :
   long : length (m.E n a p) ≡ body_length m.limits (length p)
   long = law.longer n a p takes page
 
-  front : take k body ≡ m.E n a p
+  pub front : (k ≤ length body) × (take k body ≡ m.E n a p)
   front =
-      let e : k ≡ length (m.E n a p) = w.long ∙ sym long in
-      ap (take k) w.body ∙ ap (λ i. take i (m.E n a p ++ drop k before)) e ∙ take-append_seam (m.E n a p) (drop k before)
+    let e : k ≡ length (m.E n a p) = w.long ∙ sym long in
+    let l = ap length w.body ∙ length-append (m.E n a p) (drop k before) in
+    (omega arith, ap (take k) w.body ∙ ap (λ i. take i (m.E n a p ++ drop k before)) e ∙ take-append_seam (m.E n a p) (drop k before))
 
   may_open : open_fault m.limits n a (m.E n a p) (length back) ≡ None
   may_open =
@@ -81,4 +82,4 @@ module _ (m : Meaning) (law : Lawful m) (n a p before body back : List ℕ) (k :
   answered (Err e) after o = never e after o
 
   pub comes_back : (m' : Meaning) → m' ≡ m → (r : Result ℕ Refusal) (after : List ℕ) → Opened m' n a (take k body) back r after → MatchResult r (λ j. Came p back j after) (λ e. ⊥)
-  comes_back m' em r after o = answered r after (subst (λ b. Opened m n a b back r after) front (subst (λ x. Opened x n a (take k body) back r after) em o))
+  comes_back m' em r after o = answered r after (subst (λ b. Opened m n a b back r after) front.1 (subst (λ x. Opened x n a (take k body) back r after) em o))

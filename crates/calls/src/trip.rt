@@ -1,5 +1,5 @@
 // A page is sealed and opened again.
-ghost use Rattle.std.specs.Prelude.{◌≡◌, ◌≤◌, Some, length};
+ghost use Rattle.std.specs.Prelude.{◌≡◌, ◌≤◌, Some, IfOk, length, take};
 ghost use Rattle.calls.specs.Trips.{Tripped, shown};
 
 use base::refusal::Refusal;
@@ -48,6 +48,7 @@ pub fn round_trip<S: Scheme>(
     requires { length page.now ≤ length back.old }
     ensures kept { S.meaning scheme.new ≡ S.meaning scheme.old }
     ensures stays { S.layers scheme.new ≡ S.layers scheme.old }
+    ensures body { IfOk result (λ k. (k ≤ length body.new) × (take k body.new ≡ (S.meaning scheme.old).E nonce.now ad.now page.now)) }
     ensures tripped { Tripped (S.meaning scheme.old) nonce.now ad.now page.now body.old back.old result body.new back.new }
 {
     let n = scheme.seal(nonce, ad, page, body)?;

@@ -30,11 +30,7 @@ const LINE: &[u8; 10] = b"yardolive\n";
 const LONG: usize = 100_000;
 
 fn message(heap: Global, n: usize) -> Result<Vec<u8>, AllocError> {
-    let mut bytes = Vec::new(heap);
-    for i in 0..n {
-        bytes.push(LINE[i % 10])?;
-    }
-    Ok(bytes)
+    LINE.iter().copied().cycle().take(n).collect(heap)
 }
 
 // The message, 80, zeros, and its length in bits as a number of two words: whole blocks.
@@ -77,8 +73,8 @@ fn digest<F: Keyed + Drop>(
     let mut next = Vec::from_slice(heap, start)?;
     let text = padded(heap, message, block)?;
     for part in text.chunks(block) {
-        if let Err(e) = absorb(&mut f, &h, part, &mut next) {
-            return format!(in heap; "no {} {} {}", e.cause.number(), e.layer, e.figure);
+        if let Err(refusal) = absorb(&mut f, &h, part, &mut next) {
+            return format!(in heap; "{refusal}");
         }
         std::mem::swap(&mut h, &mut next);
     }

@@ -1,10 +1,16 @@
-// How programs show bytes.
+// How programs show bytes, answers and calls.
+// Read first: specs/Shown.antt, then specs/Lines.antt.
 #![tactic(auto)]
 
 ghost use Rattle.std.specs.Prelude.{◌≡◌, ◌<◌, map, IfOk, string_bytes};
 ghost use Rattle.show.specs.Shown.{cell, digit, hex};
 
 use std::alloc::{AllocError, Global};
+
+pub mod answer;
+pub mod case;
+pub mod pages;
+pub mod parts;
 
 // The hexadecimal digit of a number below 16.
 fn hex_digit(n: u8) -> char

@@ -1,8 +1,14 @@
 use Rattle.std.proofs.Common.{◌≡◌, ℕ, ◌<◌, true, Ok, MatchResult, get_or, subst, rules}
 use Rattle.std.proofs.lemmas.Bool.Decides.{Decides-eqb}
 use Rattle.std.proofs.lemmas.Slice.Eq.{slice_eq-Decides}
-use Rattle.calls.proofs.Returns.{Came, comes_back}
+use Rattle.calls.proofs.Returns.{Came, comes_back, front}
 use Rattle.calls.proofs.trip.round_trip.Goals as goal
+
+pub returns-in-Ok-clause-body : goal.returns-in-Ok-clause-body
+returns-in-Ok-clause-body g c =
+    let small : (i : ℕ) → get_or c.args.page.now i 0 < 256 = search rules in
+    let s = c.args.scheme.now in
+    front (g.S.Scheme.meaning s) (g.met.S.Scheme.lawful s) c.args.nonce.now c.args.ad.now c.args.page.now c.args.body.now c.seal.new.out c.args.back.now c.in_ok-n.n c.in_ok-n.ensures.sealed small c.requires
 
 pub returns-in-Ok-clause-tripped : goal.returns-in-Ok-clause-tripped
 returns-in-Ok-clause-tripped g c =
