@@ -35,10 +35,14 @@ mod tests {
     use crate::seals_to;
     use base::block::Block;
     use base::refusal::{Cause, Refusal};
+    use calls::inputs::{Inputs, row};
     use compression::trial::Trial;
     use omd::omd::Omd;
     use scheme::scheme::Scheme;
+    use show::case::tell;
+    use show::pages::{open, seal};
     use std::process::Abort;
+    use std::test::Fail;
 
     // OMD over the trial function seals `page` to `expected`, and opens it again.
     fn both_ways(rt: &impl Abort, ad: &[u8], page: &[u8], expected: &[u8]) {
@@ -110,6 +114,36 @@ mod tests {
             })
         );
         assert_eq!(rt; out, [0, 0xaa, 0xaa]);
+    }
+
+    #[test]
+    fn told_in_print(rt: HostRuntime) -> Result<(), Fail> {
+        let heap = rt.alloc();
+        let inputs = Inputs {
+            nonce: row(heap, 12, 0x11, 0)?,
+            ad: Vec::new(heap),
+            page: row(heap, 1, 0x41, 0)?,
+        };
+        let said = tell(heap, &mut Omd::new(Trial), &inputs)?;
+        assert_eq!(rt; said.as_str(), "5041800000000000000000000000000000");
+        let no_nonce = Inputs {
+            nonce: Vec::new(heap),
+            ..inputs
+        };
+        let said = tell(heap, &mut Omd::new(Trial), &no_nonce)?;
+        assert_eq!(rt; said.as_str(), "no 3 1 0");
+        Ok(())
+    }
+
+    #[test]
+    fn shown_page(rt: HostRuntime) -> Result<(), Fail> {
+        let mut omd = Omd::new(Trial);
+        let body = seal(&rt, &mut omd, 1, "A")?.expect(&rt, "a body");
+        assert_eq!(rt; body.len(), 17);
+        let mut buffer = [0xaa; 2];
+        open(&rt, &mut omd, 1, &body, &mut buffer)?;
+        assert_eq!(rt; buffer, [0x41, 0xaa]);
+        Ok(())
     }
 
     #[test]
