@@ -2,6 +2,8 @@
 // half of each block is set as the key. tools/digests.sh makes the expected output by other programs.
 #![tactic(auto)]
 
+ghost use Rattle.std.specs.Prelude.{◌≤◌};
+
 use base::refusal::Refusal;
 use compression::compression::Compression;
 use compression::keyed::Keyed;
@@ -34,23 +36,16 @@ fn message(heap: Global, n: usize) -> Result<Vec<u8>, AllocError> {
 }
 
 // The message, 80, zeros, and its length in bits as a number of two words: whole blocks.
-fn padded(heap: Global, message: &[u8], block: usize) -> Result<Vec<u8>, AllocError> {
-    let bits = u64::try_from(message.len()).unwrap_or(0).wrapping_mul(8);
+fn padded(heap: Global, message: &[u8], block: usize) -> Result<Vec<u8>, AllocError>
+    requires { (64 ≤ block) × (block ≤ 128) }
+{
+    let bits = (message.len() as u64).wrapping_mul(8);
     let field = block / 8;
+    let end = (message.len() + 1 + field).next_multiple_of(block);
     let mut bytes = Vec::from_slice(heap, message)?;
     bytes.push(0x80)?;
-    for _ in 0..block {
-        if block == 0 || (bytes.len() % block).wrapping_add(field) == block {
-            break;
-        }
-        bytes.push(0)?;
-    }
-    for _ in 8..field {
-        bytes.push(0)?;
-    }
-    for b in bits.to_be_bytes() {
-        bytes.push(b)?;
-    }
+    bytes.resize(end - 8, 0)?;
+    bytes.extend_from_slice(&bits.to_be_bytes())?;
     Ok(bytes)
 }
 
