@@ -49,9 +49,9 @@ module _ (m : Meaning) (law : Lawful m) (n a p before body back : List ℕ) (k :
 
   pub front : (k ≤ length body) × (take k body ≡ m.E n a p)
   front =
-    let e : k ≡ length (m.E n a p) = w.long ∙ sym long in
-    let l = ap length w.body ∙ length-append (m.E n a p) (drop k before) in
-    (omega arith, ap (take k) w.body ∙ ap (λ i. take i (m.E n a p ++ drop k before)) e ∙ take-append_seam (m.E n a p) (drop k before))
+      let e : k ≡ length (m.E n a p) = w.long ∙ sym long in
+      let l = ap length w.body ∙ length-append (m.E n a p) (drop k before) in
+      (omega arith, ap (take k) w.body ∙ ap (λ i. take i (m.E n a p ++ drop k before)) e ∙ take-append_seam (m.E n a p) (drop k before))
 
   may_open : open_fault m.limits n a (m.E n a p) (length back) ≡ None
   may_open =
