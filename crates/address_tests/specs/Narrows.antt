@@ -1,5 +1,5 @@
 -- Less associated data hands on.
-use Rattle.std.specs.Prelude.{ℕ, ◌≤◌, min, List, length}
+use Rattle.std.specs.Prelude.{ℕ, ◌≤◌, List, length}
 use Rattle.std.proofs.Common.{arith}
 use Rattle.scheme.specs.Meaning.{Meaning, Lawful}
 use Rattle.address.specs.Handing.{lawful}

@@ -1,5 +1,5 @@
 // A scheme from outside the product that takes associated data of at most 5 bytes.
-ghost use Rattle.std.specs.Prelude.{◌≡◌};
+ghost use Rattle.std.specs.Prelude.{◌≡◌, ◌<◌, ◌≤◌, MatchResult};
 ghost use Rattle.base.specs.Refusals.{refusal};
 ghost use Rattle.base.specs.declared.refusal.Cause.TheVariants.{AdTooLong};
 ghost use Rattle.address_tests.specs.Narrow.{narrow_layers, narrowed};
@@ -10,6 +10,9 @@ use scheme::limits::Limits;
 use scheme::scheme::Scheme;
 
 const LONGEST_AD: usize = 5;
+
+// The layer that its refusals name.
+const LAYER: u8 = 9;
 
 // Any scheme, with less associated data.
 #[derive(Drop)]
@@ -23,15 +26,19 @@ impl<S: Scheme> Narrow<S> {
     {
         Narrow { below }
     }
-}
 
-fn too_long(n: usize) -> Refusal
-    ensures { result ≡ refusal AdTooLong 9 n }
-{
-    Refusal {
-        cause: Cause::AdTooLong,
-        layer: 9,
-        figure: n,
+    // Refuses associated data of `len` bytes where that is too long.
+    fn check_ad(&self, len: usize) -> Result<(), Refusal>
+        ensures { MatchResult result (λ _. len ≤ (narrowed (S.meaning self.now.below)).limits.ad) (λ e. (e ≡ refusal AdTooLong 9 len) × ((narrowed (S.meaning self.now.below)).limits.ad < len)) }
+    {
+        if len > self.limits().ad {
+            return Err(Refusal {
+                cause: Cause::AdTooLong,
+                layer: LAYER,
+                figure: len,
+            });
+        }
+        Ok(())
     }
 }
 
@@ -62,9 +69,7 @@ impl<S: Scheme> Scheme for Narrow<S> {
         body: &[u8],
         out: &mut [u8],
     ) -> Result<usize, Refusal> {
-        if ad.len() > self.limits().ad {
-            return Err(too_long(ad.len()));
-        }
+        self.check_ad(ad.len())?;
         self.below.open(nonce, ad, body, out)
     }
 
@@ -75,9 +80,7 @@ impl<S: Scheme> Scheme for Narrow<S> {
         page: &[u8],
         out: &mut [u8],
     ) -> Result<usize, Refusal> {
-        if ad.len() > self.limits().ad {
-            return Err(too_long(ad.len()));
-        }
+        self.check_ad(ad.len())?;
         self.below.seal(nonce, ad, page, out)
     }
 }

@@ -1,5 +1,6 @@
 -- The numbers of the causes, as they are printed.
-use Rattle.std.specs.Prelude.{ℕ}
+use Rattle.std.specs.Prelude.{ℕ, List, ◌∷◌, ◌++◌, codes}
+use Rattle.std.specs.Fmt.{decimal}
 use Rattle.base.specs.declared.refusal.Cause.{Cause}
 use Rattle.base.specs.declared.refusal.Cause.TheVariants.{KeyLength, TagLength, NonceLength, AdTooLong, PageTooLong, BodyTooShort, OutputTooShort, NotGenuine, CardTooLong, PageOverRecord, LastPlace, PartLength, RecordForm, WrongPlace, VolumeClosed}
 use Rattle.base.specs.declared.refusal.Refusal.{Refusal}
@@ -24,3 +25,7 @@ number_of VolumeClosed = 15
 -- a refusal: its cause, the layer that found it, and its figure
 abbrev pub refusal : Cause → ℕ → ℕ → Refusal
 refusal c l f = record { cause = c; layer = l; figure = f }
+
+-- a refusal in print, as `no 8 1 0`
+abbrev pub shown : Refusal → List ℕ
+shown e = codes "no " ++ decimal (number_of e.cause) ++ 32 ∷ decimal e.layer ++ 32 ∷ decimal e.figure

@@ -1,6 +1,8 @@
 // Why a call was refused.
-ghost use Rattle.std.specs.Prelude.{◌≡◌};
-ghost use Rattle.base.specs.Refusals.{number_of};
+ghost use Rattle.std.specs.Prelude.{◌≡◌, Some};
+ghost use Rattle.base.specs.Refusals.{number_of, shown};
+
+use std::fmt;
 
 // The closed list of causes. Later causes are added at its end.
 #[derive(Clone, Copy, PartialEq, Eq, Debug)]
@@ -35,6 +37,24 @@ impl Cause {
     pub fn number(self) -> u8
         ensures { result ≡ number_of self }
     {
-        self as u8
+        u8::from(self)
+    }
+}
+
+impl From<Cause> for u8 {
+    ghost from_gives = { λ cause n. n ≡ number_of cause };
+
+    fn from(cause: Cause) -> Self {
+        cause as u8
+    }
+}
+
+// `no`, and the cause's number, the layer and the figure.
+impl fmt::Display for Refusal {
+    ghost output = { λ e. Some (shown e) };
+
+    fn fmt<W: fmt::Write>(&self, f: &mut fmt::Formatter<W>) -> fmt::Result {
+        let cause = self.cause.number();
+        write!(f, "no {cause} {} {}", self.layer, self.figure)
     }
 }

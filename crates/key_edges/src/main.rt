@@ -2,38 +2,14 @@
 // line shows a call by its lengths and its answer.
 #![tactic(auto)]
 
-use base::refusal::Refusal;
 use compression::compression::Compression;
 use compression::keyed::Keyed;
 use keyed_sha2::sha256::Sha256;
 use keyed_sha2::sha512::Sha512;
+use show::answer::Answer;
+use show::parts::Compressed;
 use std::alloc::{AllocError, Global};
 use std::io;
-
-// What each byte of the output holds before a call.
-const BEFORE: u8 = 0xaa;
-
-// `ok` and a length, or `no` with cause, layer and figure.
-fn answer(heap: Global, r: Result<usize, Refusal>) -> Result<String, AllocError> {
-    match r {
-        Ok(n) => format!(in heap; "ok {n}"),
-        Err(e) => {
-            let cause = e.cause.number();
-            format!(in heap; "no {cause} {} {}", e.layer, e.figure)
-        }
-    }
-}
-
-// How many bytes are no longer as they were.
-fn changed(out: &[u8]) -> usize {
-    let mut n: usize = 0;
-    for b in out {
-        if *b != BEFORE {
-            n = n.saturating_add(1);
-        }
-    }
-    n
-}
 
 // Compresses zero bytes, and shows the answer.
 fn show_parts<F: Compression + Drop>(
@@ -43,17 +19,8 @@ fn show_parts<F: Compression + Drop>(
     m: usize,
     out: usize,
 ) -> io::Result<()> {
-    let heap = rt.alloc();
-    let left = vec![in heap; 0u8; h]?;
-    let right = vec![in heap; 0u8; m]?;
-    let mut room = vec![in heap; BEFORE; out]?;
-    let r = match f.compress(&left, &right, &mut room) {
-        Ok(()) => Ok(out),
-        Err(e) => Err(e),
-    };
-    let said = answer(heap, r)?;
-    let n = changed(&room);
-    println!(rt; "compress {h} {m} {out}: {said}, changed {n}")
+    let line = Compressed::from_zeros(rt.alloc(), &mut f, h, m, out)?;
+    println!(rt; "{line}")
 }
 
 // F(zeros, zeros), which tells one key from another.
@@ -70,18 +37,10 @@ fn show_key<F: Keyed + Drop>(rt: &HostRuntime, name: &str, n: usize, byte: u8) -
     let key = vec![in heap; byte; n]?;
     let mut f = F::new();
     let before = sample(heap, &mut f)?;
-    let r = match f.set_key(&key) {
-        Ok(()) => Ok(n),
-        Err(e) => Err(e),
-    };
+    let answer = Answer(f.set_key(&key).map(|()| n));
     let after = sample(heap, &mut f)?;
-    let said = answer(heap, r)?;
-    let told = if before.as_slice() == after.as_slice() {
-        "same"
-    } else {
-        "other"
-    };
-    println!(rt; "{name} key {n} of {byte}: {said}, {told} function")
+    let told = if before == after { "same" } else { "other" };
+    println!(rt; "{name} key {n} of {byte}: {answer}, {told} function")
 }
 
 fn show_compression(rt: &HostRuntime) -> io::Result<()> {

@@ -50,8 +50,8 @@ fn mix(h: &[u8], m: &[u8], out: &mut [u8])
     requires out { length out.old ≡ 48 }
     ensures { out.new ≡ mixed h.now m.now }
 {
-    for i in 0..48 {
+    for (i, o) in out.iter_mut().enumerate() {
         let sum = 3 * usize::from(h[i]) + 5 * usize::from(m[47 - i]) + 7 * i + 1;
-        out[i] = (sum % 256) as u8;
+        *o = (sum % 256) as u8;
     }
 }

@@ -3,6 +3,7 @@
 #![tactic(auto)]
 
 use base::refusal::Refusal;
+use calls::inputs::{Inputs, row};
 use compression::compression::Compression;
 use compression::keyed::Keyed;
 use compression::trial::Trial;
@@ -11,13 +12,11 @@ use keyed_sha2::sha512::Sha512;
 use mixer::Mixer;
 use omd::omd::Omd;
 use scheme::scheme::Scheme;
-use show::to_hex;
+use show::case::tell;
 use std::alloc::{AllocError, Global};
 use std::io;
+use std::str::FromStr;
 use two_pass::modes::{Counter, Serial};
-
-// Room for the longest body.
-const ROOM: usize = 4096 + 64;
 
 #[derive(Clone, Copy)]
 enum Mode {
@@ -34,210 +33,120 @@ enum Function {
     Sha512,
 }
 
-// The lengths of one case, in bytes. A key of no bytes is not set.
+// A word that names no mode, or no function.
 #[derive(Clone, Copy)]
-struct Lengths {
+struct UnknownWord;
+
+// One case: what seals, and the lengths in bytes. With no key the function keeps the one it has.
+#[derive(Clone, Copy)]
+struct Case {
+    mode: Mode,
+    function: Function,
     tag: usize,
-    key: usize,
+    key: Option<usize>,
     nonce: usize,
     ad: usize,
     page: usize,
 }
 
-// What is sealed.
-#[derive(Drop)]
-struct Inputs {
-    nonce: Vec<u8>,
-    ad: Vec<u8>,
-    page: Vec<u8>,
-}
+impl FromStr for Mode {
+    type Err = UnknownWord;
 
-// `n` bytes: the first is `start`, and each next one is larger by `step`, modulo 256.
-fn row(heap: Global, n: usize, start: u8, step: u8) -> Result<Vec<u8>, AllocError> {
-    let mut bytes = Vec::new(heap);
-    let mut b = start;
-    for _ in 0..n {
-        bytes.push(b)?;
-        b = b.wrapping_add(step);
+    fn from_str(word: &str) -> Result<Self, UnknownWord> {
+        match word {
+            "omd" => Ok(Self::Omd),
+            "serial" => Ok(Self::Serial),
+            "counter" => Ok(Self::Counter),
+            _ => Err(UnknownWord),
+        }
     }
-    Ok(bytes)
 }
 
-impl Inputs {
-    fn of(heap: Global, lengths: Lengths) -> Result<Inputs, AllocError> {
-        Ok(Inputs {
-            nonce: row(heap, lengths.nonce, 16, 1)?,
-            ad: row(heap, lengths.ad, 5, 11)?,
-            page: row(heap, lengths.page, 3, 7)?,
+impl FromStr for Function {
+    type Err = UnknownWord;
+
+    fn from_str(word: &str) -> Result<Self, UnknownWord> {
+        match word {
+            "trial" => Ok(Self::Trial),
+            "mixer" => Ok(Self::Mixer),
+            "sha256" => Ok(Self::Sha256),
+            "sha512" => Ok(Self::Sha512),
+            _ => Err(UnknownWord),
+        }
+    }
+}
+
+impl Case {
+    // A line: mode, function, and the lengths of tag, key, nonce, associated data and page. A key of
+    // no bytes stands for none.
+    fn parse(line: &str) -> Option<Self> {
+        let mut words = line.split(' ');
+        Some(Case {
+            mode: words.next()?.parse().ok()?,
+            function: words.next()?.parse().ok()?,
+            tag: words.next()?.parse().ok()?,
+            key: words.next()?.parse().ok().map(|n| (n > 0).then_some(n))?,
+            nonce: words.next()?.parse().ok()?,
+            ad: words.next()?.parse().ok()?,
+            page: words.next()?.parse().ok()?,
         })
     }
-}
 
-fn refused(heap: Global, e: Refusal) -> Result<String, AllocError> {
-    format!(in heap; "no {} {} {}", e.cause.number(), e.layer, e.figure)
-}
-
-// Whether `body` opens to the page.
-fn opens<S: Scheme>(scheme: &mut S, inputs: &Inputs, body: &[u8], room: &mut [u8]) -> bool {
-    match scheme.open(&inputs.nonce, &inputs.ad, body, room) {
-        Ok(n) => &room[0..n] == inputs.page.as_slice(),
-        Err(_) => false,
+    // What is said of the case.
+    fn tell(self, heap: Global) -> Result<String, AllocError> {
+        match self.function {
+            Function::Trial => self.tell_over(heap, Trial),
+            Function::Mixer => self.tell_over(heap, Mixer),
+            Function::Sha256 => self.tell_keyed::<Sha256>(heap),
+            Function::Sha512 => self.tell_keyed::<Sha512>(heap),
+        }
     }
-}
 
-// The body in hexadecimal, or what is said in its place.
-fn answer<S: Scheme>(
-    heap: Global,
-    scheme: &mut S,
-    inputs: &Inputs,
-    room: &mut [u8],
-) -> Result<String, AllocError> {
-    match scheme.seal(&inputs.nonce, &inputs.ad, &inputs.page, room) {
-        Ok(n) => {
-            let body = Vec::from_slice(heap, &room[0..n])?;
-            if opens(scheme, inputs, &body, room) {
-                to_hex(heap, &body)
-            } else {
-                String::from_str(heap, "differs")
+    fn tell_keyed<F: Keyed + Drop>(self, heap: Global) -> Result<String, AllocError> {
+        let mut f = F::new();
+        if let Some(len) = self.key {
+            let key = row(heap, len, 7, 13)?;
+            if let Err(refusal) = f.set_key(&key) {
+                return format!(in heap; "{refusal}");
             }
         }
-        Err(e) => refused(heap, e),
+        self.tell_over(heap, f)
     }
-}
 
-fn by_omd<F: Compression + Drop>(
-    heap: Global,
-    f: F,
-    tag: usize,
-    inputs: &Inputs,
-    room: &mut [u8],
-) -> Result<String, AllocError> {
-    let mut omd = Omd::new(f);
-    match omd.set_tag_len(tag) {
-        Ok(()) => answer(heap, &mut omd, inputs, room),
-        Err(e) => refused(heap, e),
-    }
-}
-
-fn by_serial<F: Compression + Drop>(
-    heap: Global,
-    f: F,
-    tag: usize,
-    inputs: &Inputs,
-    room: &mut [u8],
-) -> Result<String, AllocError> {
-    let mut serial = Serial::new(f);
-    match serial.set_tag_len(tag) {
-        Ok(()) => answer(heap, &mut serial, inputs, room),
-        Err(e) => refused(heap, e),
-    }
-}
-
-fn by_counter<F: Compression + Drop>(
-    heap: Global,
-    f: F,
-    tag: usize,
-    inputs: &Inputs,
-    room: &mut [u8],
-) -> Result<String, AllocError> {
-    let mut counter = Counter::new(f);
-    match counter.set_tag_len(tag) {
-        Ok(()) => answer(heap, &mut counter, inputs, room),
-        Err(e) => refused(heap, e),
-    }
-}
-
-fn by_mode<F: Compression + Drop>(
-    heap: Global,
-    mode: Mode,
-    f: F,
-    lengths: Lengths,
-) -> Result<String, AllocError> {
-    let inputs = Inputs::of(heap, lengths)?;
-    let mut room = vec![in heap; 0; ROOM]?;
-    match mode {
-        Mode::Omd => by_omd(heap, f, lengths.tag, &inputs, &mut room),
-        Mode::Serial => by_serial(heap, f, lengths.tag, &inputs, &mut room),
-        Mode::Counter => by_counter(heap, f, lengths.tag, &inputs, &mut room),
-    }
-}
-
-fn by_keyed<F: Keyed + Drop>(
-    heap: Global,
-    mode: Mode,
-    lengths: Lengths,
-) -> Result<String, AllocError> {
-    let mut f = F::new();
-    if lengths.key > 0 {
-        let key = row(heap, lengths.key, 7, 13)?;
-        if let Err(e) = f.set_key(&key) {
-            return refused(heap, e);
+    fn tell_over<F: Compression + Drop>(self, heap: Global, f: F) -> Result<String, AllocError> {
+        match self.mode {
+            Mode::Omd => self.tell_by(heap, Omd::new(f), |omd, n| omd.set_tag_len(n)),
+            Mode::Serial => self.tell_by(heap, Serial::new(f), |serial, n| serial.set_tag_len(n)),
+            Mode::Counter => self.tell_by(heap, Counter::new(f), |counter, n| {
+                counter.set_tag_len(n)
+            }),
         }
     }
-    by_mode(heap, mode, f, lengths)
-}
 
-// What is said of one case.
-fn told(
-    heap: Global,
-    mode: Mode,
-    function: Function,
-    lengths: Lengths,
-) -> Result<String, AllocError> {
-    match function {
-        Function::Trial => by_mode(heap, mode, Trial, lengths),
-        Function::Mixer => by_mode(heap, mode, Mixer, lengths),
-        Function::Sha256 => by_keyed::<Sha256>(heap, mode, lengths),
-        Function::Sha512 => by_keyed::<Sha512>(heap, mode, lengths),
+    fn tell_by<S: Scheme + Drop, T>(
+        self,
+        heap: Global,
+        mut scheme: S,
+        set_tag_len: T,
+    ) -> Result<String, AllocError>
+    where
+        T: FnOnce(&mut S, usize) -> Result<(), Refusal>,
+        requires { T.IsAlwaysCallable set_tag_len }
+    {
+        if let Err(refusal) = set_tag_len(&mut scheme, self.tag) {
+            return format!(in heap; "{refusal}");
+        }
+        let nonce = row(heap, self.nonce, 16, 1)?;
+        let inputs = Inputs::new(heap, nonce, self.ad, self.page)?;
+        tell(heap, &mut scheme, &inputs)
     }
-}
-
-fn mode_of(word: &str) -> Option<Mode> {
-    match word {
-        "omd" => Some(Mode::Omd),
-        "serial" => Some(Mode::Serial),
-        "counter" => Some(Mode::Counter),
-        _ => None,
-    }
-}
-
-fn function_of(word: &str) -> Option<Function> {
-    match word {
-        "trial" => Some(Function::Trial),
-        "mixer" => Some(Function::Mixer),
-        "sha256" => Some(Function::Sha256),
-        "sha512" => Some(Function::Sha512),
-        _ => None,
-    }
-}
-
-fn length_of(word: &str) -> Option<usize> {
-    match word.parse::<usize>() {
-        Ok(n) => Some(n),
-        Err(_) => None,
-    }
-}
-
-// A line: mode, function, and the lengths of tag, key, nonce, associated data and page.
-fn parsed(line: &str) -> Option<(Mode, Function, Lengths)> {
-    let mut words = line.split(' ');
-    let mode = mode_of(words.next()?)?;
-    let function = function_of(words.next()?)?;
-    let lengths = Lengths {
-        tag: length_of(words.next()?)?,
-        key: length_of(words.next()?)?,
-        nonce: length_of(words.next()?)?,
-        ad: length_of(words.next()?)?,
-        page: length_of(words.next()?)?,
-    };
-    Some((mode, function, lengths))
 }
 
 fn main(rt: HostRuntime) -> io::Result<()> {
     for line in rt.lines(rt.alloc()) {
         let line = line?;
-        if let Some((mode, function, lengths)) = parsed(&line) {
-            println!(rt; "{line}: {}", told(rt.alloc(), mode, function, lengths)?)?;
+        if let Some(case) = Case::parse(&line) {
+            println!(rt; "{line}: {}", case.tell(rt.alloc())?)?;
         }
     }
     Ok(())

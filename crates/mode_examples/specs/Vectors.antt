@@ -1,19 +1,15 @@
 -- The three modes over SHA-256 and SHA-512, computed by their definitions, against the bytes of the second program. A field
 -- `counter sha256_mode 133 168` has what tools/modes.py prints for the line `counter sha256 20 16 12 133 168`: a tag of 20
 -- bytes, a key of 16, a nonce of 12, 133 bytes of associated data and a page of 168.
-use Rattle.std.specs.Prelude.{ℕ, zero, suc, ◌+◌, ◌*◌, ◌%◌, List, [], ◌∷◌, ◌≡◌}
+use Rattle.std.specs.Prelude.{ℕ, ◌*◌, List, ◌≡◌}
 use Rattle.base.specs.Bytes.{digits}
+use Rattle.calls.specs.Inputs.{row}
 use Rattle.fips180.specs.Words.{Sizes, sha256, sha512}
 use Rattle.keyed_sha2.specs.Keys.{keyed}
 use Rattle.omd.specs.Omd.{sealed as by_omd}
 use Rattle.two_pass.specs.TwoPass.{sealed as by_two_pass}
 use Rattle.two_pass.specs.declared.keystream.Keystream.{Keystream}
 use Rattle.two_pass.specs.declared.keystream.Keystream.TheVariants.{Serial, Counter}
-
--- n bytes: the first is `start`, and each next one is larger by `step`, modulo 256
-abbrev pub row : ℕ → ℕ → ℕ → List ℕ
-row zero start step = []
-row (suc n) start step = start % 256 ∷ row n (start + step) step
 
 -- a kind of function: its sizes and its feedback number
 pub record Kind : Type 0 where

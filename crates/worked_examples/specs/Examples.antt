@@ -1,7 +1,9 @@
 -- The worked examples, as one computed comparison: the trial function, a tag of 16 bytes, and a nonce of twelve 11.
-use Rattle.std.specs.Prelude.{ℕ, zero, suc, Bool, true, false, not, ◌&&◌, List, [], ◌∷◌, ◌++◌, replicate, ◌==◌}
+use Rattle.std.specs.Prelude.{◌≡◌, None, ℕ, zero, suc, Bool, true, false, not, ◌&&◌, List, [], ◌∷◌, ◌++◌, replicate, ◌==◌}
 use Rattle.base.specs.Bytes.{xor, zeros, double}
 use Rattle.omd.specs.Omd.{sealed}
+use Rattle.scheme.specs.Meaning.{Meaning}
+use Rattle.scheme.specs.Answers.{seal_fault}
 
 abbrev pub same : List ℕ → List ℕ → Bool
 same [] [] = true
@@ -36,3 +38,8 @@ examples =
     ∷ same (double 0x0425 (0x80 ∷ zeros 31)) (zeros 30 ++ 0x04 ∷ 0x25 ∷ [])
     ∷ same (double 0x0125 (0x80 ∷ zeros 63)) (zeros 62 ++ 0x01 ∷ 0x25 ∷ [])
     ∷ [])
+
+-- with 64 bytes of room nothing speaks against sealing page p, and its body is b
+pub record SealsTo (m : Meaning) (n a p b : List ℕ) : Type 0 where
+  pub may : seal_fault m.limits n a p 64 ≡ None
+  pub gives : m.E n a p ≡ b

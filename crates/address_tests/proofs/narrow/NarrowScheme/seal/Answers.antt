@@ -1,4 +1,4 @@
-use Rattle.std.proofs.Common.{◌≡◌, ◌≤◌, length, refl, ap, arith}
+use Rattle.std.proofs.Common.{◌≤◌, length, refl, ap}
 use Rattle.address_tests.specs.Narrow.{narrow_layers, narrowed}
 use Rattle.address_tests.specs.Narrows.{longest, same, within}
 use Rattle.address.specs.Handing.{sealed_above, seal_layer}
@@ -9,8 +9,7 @@ returns g c =
     let s = c.args.self.now in
     let m = g.S.Scheme.meaning s.below in
     let a = c.args.ad.now in
-    let e = ap (λ l. l.ad) c.limits.ensures in
-    let fits : length a ≤ longest m = omega arith in
+    let fits : length a ≤ longest m = c.in_ok-check_ad.ensures in
     record {
       kept = ap narrowed c.seal.ensures.kept;
       stays = ap narrow_layers c.seal.ensures.stays;
