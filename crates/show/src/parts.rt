@@ -31,7 +31,7 @@ impl Compressed {
         out: usize,
     ) -> Result<Compressed, AllocError>
         ensures kept { F.value f.new ≡ F.value f.old }
-        ensures made { IfOk result (λ c. c ≡ record { h = h; m = m; out = out; answer = answer F.width h m out; changed = zeros_changed F.width (F.value f.old) h m out }) }
+        ensures made { IfOk result (λ c. c ≡ record { h = h; m = m; out = out; answer = answer F.WIDTH h m out; changed = zeros_changed F.WIDTH (F.value f.old) h m out }) }
     {
         let left = vec![in heap; 0; h]?;
         let right = vec![in heap; 0; m]?;
