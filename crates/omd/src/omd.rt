@@ -4,8 +4,7 @@ use frames::setup::Setup;
 
 pub mod sealing;
 
-// L[0] is 4·L*.
 #[derive(Drop)]
 pub struct Omd<F: Compression> {
-    setup: Setup<F, 2>,
+    setup: Setup<F>,
 }

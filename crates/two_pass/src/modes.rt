@@ -6,10 +6,10 @@ use std::marker::PhantomData;
 
 pub mod sealing;
 
-// Both modes: they differ in their keystream alone. L[0] is 8·L*.
+// Both modes: they differ in their keystream alone.
 #[derive(Drop)]
 pub struct TwoPass<F: Compression, K: Chaining> {
-    setup: Setup<F, 3>,
+    setup: Setup<F>,
     keystream: PhantomData<K>,
 }
 

@@ -33,10 +33,11 @@ pub fn seals_to<S: Scheme>(scheme: &mut S, ad: &[u8], page: &[u8], expected: &[u
 #[cfg(test)]
 mod tests {
     use crate::seals_to;
-    use base::block::Block;
     use base::refusal::{Cause, Refusal};
     use calls::inputs::{Inputs, row};
+    use compression::part::Part;
     use compression::trial::Trial;
+    use keyed_sha2::sha512::Sha512;
     use omd::omd::Omd;
     use scheme::scheme::Scheme;
     use show::case::tell;
@@ -150,8 +151,8 @@ mod tests {
     fn doubling(rt: HostRuntime) {
         let mut bytes = [0; 64];
         bytes[0] = 0x80;
-        let narrow = Block::of(&bytes[0..32]).double(0x0425);
-        let wide = Block::of(&bytes).double(0x0125);
+        let narrow: Part<Trial> = Part::of(&bytes[0..32]).double();
+        let wide: Part<Sha512> = Part::of(&bytes).double();
         let mut expected = [0; 64];
         expected[30] = 0x04;
         expected[31] = 0x25;

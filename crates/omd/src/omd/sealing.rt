@@ -15,6 +15,7 @@ use crate::parts::{begin, run_page, sum_ad};
 use base::refusal::Refusal;
 use compression::compression::Compression;
 use compression::part::Part;
+use frames::offsets::OffsetTable;
 use frames::rule::Direction;
 use frames::setup::Setup;
 use scheme::inputs::Inputs;
@@ -50,8 +51,9 @@ impl<F: Compression> Omd<F> {
         ensures tag { bytes_of result ≡ xor (page_tag F.WIDTH F.FEEDBACK (F.value self.old.setup.f) self.old.setup.tag_len inputs.entry.nonce.now (page_of direction src.now dst.new)) (ad_tag F.WIDTH F.FEEDBACK (F.value self.old.setup.f) inputs.entry.ad.now) }
     {
         let tag_len = self.setup.tag_len;
-        let table = self.setup.table();
         let f = &mut self.setup.f;
+        // L[0] is 4·L*.
+        let table = OffsetTable::filled(f, 2);
         let sum = sum_ad(f, &table, inputs.ad);
         let start = begin(f, &table, tag_len, inputs.nonce);
         run_page(f, &table, direction, start, src, dst) ^ sum

@@ -45,6 +45,17 @@ impl<F: Compression, K: Chaining> TwoPass<F, K> {
         self.setup.set_tag_len(n)
     }
 
+    // The table of offsets, whose L[0] is 8·L*, and D(0).
+    fn prepare(&mut self, inputs: Inputs) -> (OffsetTable<F>, Part<F>)
+        ensures kept { F.value self.new.setup.f ≡ F.value self.old.setup.f }
+        ensures same { self.new.setup.tag_len ≡ self.old.setup.tag_len }
+        ensures filled { Filled F.WIDTH F.FEEDBACK 3 (star F.WIDTH (F.value self.old.setup.f)) result.0 }
+        ensures offset { bytes_of result.1 ≡ nonce_offset F.WIDTH F.FEEDBACK (F.value self.old.setup.f) inputs.entry.nonce.now }
+    {
+        let f = &mut self.setup.f;
+        (OffsetTable::filled(f, 3), begin(f, inputs.nonce))
+    }
+
     // The part whose first bytes are the tag.
     fn tag_block(
         &mut self,
@@ -128,16 +139,14 @@ impl<F: Compression, K: Chaining> Mode for TwoPass<F, K> {
     #[tactic(auto, unfolding(crate::specs::TwoPass::body))]
     fn encrypt(&mut self, inputs: Inputs, page: &[u8], body: &mut [u8]) {
         let (tag, cipher) = body.split_at_mut(self.setup.tag_len);
-        let table = self.setup.table();
-        let d = begin(&mut self.setup.f, inputs.nonce);
+        let (table, d) = self.prepare(inputs);
         self.tag_block(&table, d, inputs, page).write_front(tag);
         self.encipher(&table, Direction::Seal, d, Part::filled(tag), page, cipher);
     }
 
     fn recover(&mut self, inputs: Inputs, body: &[u8], page: &mut [u8], out: &mut [u8]) {
         let (tag, cipher) = body.split_at(self.setup.tag_len);
-        let table = self.setup.table();
-        let d = begin(&mut self.setup.f, inputs.nonce);
+        let (table, d) = self.prepare(inputs);
         self.encipher(&table, Direction::Open, d, Part::filled(tag), cipher, page);
         self.tag_block(&table, d, inputs, page).write_front(out);
     }

@@ -9,7 +9,7 @@ use Rattle.omd.proofs.omd.Omd.run.Goals as goal
 pub returns-clause-cipher : goal.returns-clause-cipher
 returns-clause-cipher g c =
     let m = g.F.Compression in
-    let t = c.table-table in
+    let t = c.filled-table in
     let b = c.begin-start in
     let v2 = c.sum_ad-sum.ensures.kept ∙ t.ensures.kept in
     run_cipher m.WIDTH m.FEEDBACK (m.value c.args.self.now.setup.f) (m.value c.sum_ad-sum.new.f) (m.value b.new.f) _ _ c.args.inputs.nonce.now (bytes_of b.result.offset) (bytes_of b.result.value) _ t.result v2 (b.ensures.kept ∙ v2) refl t.ensures.filled.entries_are b.ensures.offset b.ensures.value (cipher_of c.args.direction c.args.src.now c.run_page.new.dst) c.run_page.ensures.cipher
@@ -18,7 +18,7 @@ pub returns-clause-tag : goal.returns-clause-tag
 returns-clause-tag g c =
     let m = g.F.Compression in
     let V = m.value c.args.self.now.setup.f in
-    let t = c.table-table in
+    let t = c.filled-table in
     let b = c.begin-start in
     let v1 = t.ensures.kept in
     let v2 = c.sum_ad-sum.ensures.kept ∙ v1 in

@@ -3,7 +3,6 @@ use Rattle.std.proofs.lemmas.List.{take-take}
 use Rattle.base.specs.Bytes.{filled}
 use Rattle.base.proofs.Parts.{from_zero, part_end}
 use Rattle.compression.specs.Parts.{bytes_of}
-use Rattle.two_pass.specs.TwoPass.{nonce_offset}
 use Rattle.two_pass.specs.Laws.{recovers}
 use Rattle.two_pass.proofs.modes.sealing.TwoPassMode.recover.Goals as goal
 
@@ -14,7 +13,7 @@ returns-clause-recovered g c =
     let z = q.wide.0 in
     let k = g.K.Chaining.keystream in
     let s = c.args.self.now.setup in
-    let v1 = c.begin-d.ensures.kept ∙ c.table-table.ensures.kept in
+    let v1 = c.prepare.ensures.kept in
     let v2 = c.encipher.ensures.kept ∙ v1 in
     let whole = c.args.body.now in
     let t = s.tag_len in
@@ -22,5 +21,5 @@ returns-clause-recovered g c =
     let back = part_end t (length whole - t) whole (omega arith) ∙ sym c.split_at.ensures.back in
     let block = bytes_of c.tag_block.result in
     let tag : take s.tag_len c.write_front.new.out ≡ take s.tag_len block = ap (take s.tag_len) (c.write_front.ensures ∙ ap (λ i. take i block) c.requires.out) ∙ take-take s.tag_len s.tag_len block (omega arith) in
-    let r = recovers m.WIDTH m.FEEDBACK (omega arith) (m.value s.f) (q.sized s.f) k s.tag_len s.high c.args.inputs.nonce.now c.args.inputs.ad.now (bytes_of c.begin-d.result) (c.begin-d.ensures.offset ∙ ap (λ V. nonce_offset m.WIDTH m.FEEDBACK V c.args.inputs.nonce.now) c.table-table.ensures.kept) _ _ v1 v2 t _ _ refl refl c.table-table.ensures.same whole c.encipher.new.dst block (bytes_of c.filled.result) (omega arith) (c.filled.ensures ∙ ap (filled _) front) (back ∙ c.encipher.ensures.cipher) c.tag_block.ensures.tag in
+    let r = recovers m.WIDTH m.FEEDBACK (omega arith) (m.value s.f) (q.sized s.f) k s.tag_len s.high c.args.inputs.nonce.now c.args.inputs.ad.now (bytes_of c.prepare.result.1) c.prepare.ensures.offset _ _ v1 v2 t _ _ refl refl c.prepare.ensures.same whole c.encipher.new.dst block (bytes_of c.filled.result) (omega arith) (c.filled.ensures ∙ ap (filled _) front) (back ∙ c.encipher.ensures.cipher) c.tag_block.ensures.tag in
     record { tells = λ e. r.tells (sym tag ∙ e); only = λ p e. tag ∙ r.only p e }
