@@ -28,10 +28,10 @@ F k = keyed k.sizes (row 16 7 13)
 
 -- the body of a page of p bytes with a bytes of associated data
 abbrev pub omd : Kind → ℕ → ℕ → List ℕ
-omd k a p = by_omd (8 * k.sizes.bytes) k.FEEDBACK (F k) 20 (row 12 16 1) (row a 5 11) (row p 3 7)
+omd k a p = by_omd (8 * k.sizes.bytes) k.feedback (F k) 20 (row 12 16 1) (row a 5 11) (row p 3 7)
 
 abbrev pub two_pass : Keystream → Kind → ℕ → ℕ → List ℕ
-two_pass s k a p = by_two_pass (8 * k.sizes.bytes) k.FEEDBACK (F k) s 20 (row 12 16 1) (row a 5 11) (row p 3 7)
+two_pass s k a p = by_two_pass (8 * k.sizes.bytes) k.feedback (F k) s 20 (row 12 16 1) (row a 5 11) (row p 3 7)
 
 abbrev pub serial : Kind → ℕ → ℕ → List ℕ
 serial = two_pass Serial
