@@ -78,10 +78,19 @@ rounds_split z s (suc n) [] ws hk hw = absurd (let h : suc n ≤ 0 = hk in omega
 rounds_split z s (suc n) (k ∷ ks) [] hk hw = absurd (let h : suc n ≤ 0 = hw in omega arith)
 rounds_split z s (suc n) (k ∷ ks) (w ∷ ws) hk hw = rounds_split z (round z s k w) n ks ws (le_of_suc-le-suc hk) (le_of_suc-le-suc hw)
 
+-- all rounds are done
+pub after_all : (z : Sizes) (start : State ℕ) (block ws : List ℕ) (n t : ℕ) {s m : State ℕ} → length z.constants ≡ z.rounds → length ws ≡ z.rounds → 16 ≤ z.rounds
+    → n ≡ z.rounds - 16 → t ≡ z.rounds → Going z start z.constants block ws n m → After z start z.constants ws t s → s ≡ worked z start block
+after_all z start block ws n t {s} {m} lk lw h en et g a =
+    let k : take t z.constants ≡ z.constants = take_all t z.constants (omega arith) in
+    let w : take t ws ≡ ws = take_all t ws (omega arith) in
+    let w' : take (n + 16) ws ≡ ws = take_all (n + 16) ws (omega arith) in
+    a.is ∙ ap₂ (rounds z start) k (w ∙ sym w' ∙ g.words ∙ ap (λ (i : ℕ). schedule z i block) en)
+
 -- the schedule is whole: with the rounds that are left, all are done
-pub after_all : (z : Sizes) (start : State ℕ) (block ws : List ℕ) (n t : ℕ) {s : State ℕ} → length z.constants ≡ z.rounds → length ws ≡ z.rounds → 16 ≤ z.rounds
+pub after_front : (z : Sizes) (start : State ℕ) (block ws : List ℕ) (n t : ℕ) {s : State ℕ} → length z.constants ≡ z.rounds → length ws ≡ z.rounds → 16 ≤ z.rounds
     → n ≡ z.rounds - 16 → t ≡ n → Going z start z.constants block ws t s → rounds z s (drop n z.constants) (drop n ws) ≡ worked z start block
-after_all z start block ws n t {s} lk lw h en et g =
+after_front z start block ws n t {s} lk lw h en et g =
     let w : take (t + 16) ws ≡ ws = take_all (t + 16) ws (omega arith) in
     let b = rounds_split z start t z.constants ws (omega arith) (omega arith) in
     rw (← et) (ap (λ (v : State ℕ). rounds z v (drop t z.constants) (drop t ws)) g.state.is
