@@ -2,8 +2,6 @@
 // half of each block is set as the key. tools/digests.sh makes the expected output by other programs.
 #![tactic(auto)]
 
-ghost use Rattle.std.specs.Prelude.{◌≤◌};
-
 use base::refusal::Refusal;
 use compression::compression::Compression;
 use compression::keyed::Keyed;
@@ -53,12 +51,10 @@ fn message(heap: Global, n: usize) -> Result<Vec<u8>, AllocError> {
 }
 
 // The message, 80, zeros, and its length in bits as a number of two words: whole blocks.
-fn padded(heap: Global, message: &[u8], block: usize) -> Result<Vec<u8>, AllocError>
-    requires { (64 ≤ block) × (block ≤ 128) }
-{
+fn padded<F: Compression>(heap: Global, message: &[u8]) -> Result<Vec<u8>, AllocError> {
     let bits = (message.len() as u64).wrapping_mul(8);
-    let field = block / 8;
-    let end = (message.len() + 1 + field).next_multiple_of(block);
+    let field = F::WIDTH / 4;
+    let end = (message.len() + 1 + field).next_multiple_of(2 * F::WIDTH);
     let mut bytes = Vec::from_slice(heap, message)?;
     bytes.push(0x80)?;
     bytes.resize(end - 8, 0)?;
@@ -75,12 +71,11 @@ fn absorb<F: Keyed>(f: &mut F, h: &[u8], block: &[u8], out: &mut [u8]) -> Result
 
 // The digest in hexadecimal, or the refusal.
 fn digest<F: Hash>(heap: Global, message: &[u8]) -> Result<String, AllocError> {
-    let block = 2 * F::WIDTH;
     let mut f = F::new();
     let mut h = Vec::from_slice(heap, F::start())?;
     let mut next = Vec::from_slice(heap, F::start())?;
-    let text = padded(heap, message, block)?;
-    for part in text.chunks(block) {
+    let text = padded::<F>(heap, message)?;
+    for part in text.chunks(2 * F::WIDTH) {
         if let Err(refusal) = absorb(&mut f, &h, part, &mut next) {
             return format!(in heap; "{refusal}");
         }
