@@ -28,6 +28,7 @@ pub enum Cause {
 #[derive(Clone, Copy, PartialEq, Eq, Debug)]
 pub struct Refusal {
     pub cause: Cause,
+    // Kept a number: a scheme from outside names layers of its own.
     pub layer: u8,
     pub figure: usize,
 }

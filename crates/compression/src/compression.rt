@@ -4,6 +4,9 @@ ghost use Rattle.compression.specs.Answers.{answer, misfit};
 
 use base::refusal::{Cause, Refusal};
 
+// The layer that a refusal of a compression function names.
+pub(crate) const LAYER: u8 = 0;
+
 // A keyed compression function F. It means a fixed map from two parts of `WIDTH` bytes, H and M, to
 // `WIDTH` bytes.
 pub trait Compression {
@@ -52,7 +55,7 @@ fn check_part(width: usize, len: usize) -> Result<(), Refusal>
     if len != width {
         return Err(Refusal {
             cause: Cause::PartLength,
-            layer: 0,
+            layer: LAYER,
             figure: len,
         });
     }

@@ -2,7 +2,7 @@ ghost use Rattle.std.specs.Prelude.{◌≡◌, ℕ, List, length, is_ok, if◌th
 ghost use Rattle.base.specs.Bytes.{zeros};
 ghost use Rattle.compression.specs.Answers.{key_answer};
 
-use crate::compression::Compression;
+use crate::compression::{Compression, LAYER};
 use base::refusal::{Cause, Refusal};
 
 // The fewest bytes of a key.
@@ -30,7 +30,7 @@ pub fn check_key(width: usize, len: usize) -> Result<(), Refusal>
     if len < SHORTEST_KEY || len > width {
         return Err(Refusal {
             cause: Cause::KeyLength,
-            layer: 0,
+            layer: LAYER,
             figure: len,
         });
     }

@@ -9,6 +9,7 @@ use compression::part::Part;
 use std::alloc::AllocError;
 
 // From the page to its ciphertext, or back.
+// Kept an enum: one pass goes both ways, and asks it once a block which of two slices is the page.
 #[derive(Clone, Copy)]
 pub enum Direction {
     Seal,

@@ -18,6 +18,7 @@ use std::io;
 use std::str::FromStr;
 use two_pass::modes::{Counter, Serial};
 
+// Kept enums, this one and the next: each choice is of a type, by what a line says.
 #[derive(Clone, Copy)]
 enum Mode {
     Omd,

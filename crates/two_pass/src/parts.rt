@@ -43,6 +43,8 @@ pub(crate) fn begin<F: Compression>(f: &mut F, nonce: &[u8]) -> Part<F>
     Part::compressed(f, Part::padded(nonce), Part::zeros())
 }
 
+// Kept as a clause, here and below: that the table is filled, which is a fact of the table and of F
+// together.
 // Sums all blocks of `src` but the last onto `sum`. The answer stands at the last block, with its
 // mask as the offset.
 fn sum_to_last<'a, F: Compression>(

@@ -37,7 +37,6 @@ impl<F: Compression, K: Chaining> TwoPass<F, K> {
     }
 
     // Sets the tag's length, or refuses one outside 4 to the width; the old one then stays.
-    // Kept: the lines of OMD's set-up. A struct that shared them would be read through at each use.
     pub fn set_tag_len(&mut self, n: usize) -> Result<(), Refusal>
         ensures answer { result ≡ tag_answer F.WIDTH n }
         ensures means { means F.WIDTH F.FEEDBACK F.value K.keystream self.new ≡ (if is_ok result then two_pass F.WIDTH F.FEEDBACK (F.value self.old.setup.f) K.keystream n else means F.WIDTH F.FEEDBACK F.value K.keystream self.old) }
