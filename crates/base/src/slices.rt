@@ -34,7 +34,8 @@ pub fn xor_into(dst: &mut [u8], src: &[u8])
     ensures whole { length dst.old ≤ length src.now → dst.new ≡ xor dst.old src.now }
 {
     let n = dst.len().min(src.len());
-    // By index: of what is written in a `zip` over `iter_mut` nothing is known after the loop.
+    // By index: of what is written in a `zip` over `iter_mut` nothing is known after the loop, and
+    // `enumerate` would index all the same.
     for i in 0..n {
         dst[i] ^= src[i];
     }

@@ -16,6 +16,7 @@ pub struct Inputs {
 pub fn row(heap: Global, n: usize, start: u8, step: u8) -> Result<Vec<u8>, AllocError>
     ensures { IfOk result (λ v. v.items ≡ row n start step) }
 {
+    // Kept a loop: a chain of successors would say no more plainly what the next byte is.
     let mut bytes = Vec::new(heap);
     let mut next = start;
     for _ in 0..n {

@@ -36,6 +36,7 @@ impl fmt::Display for TripError {
     }
 }
 
+// Kept apart: nonce, associated data and page, which tests have as slices of their own.
 // Seals `page` into `body`, opens that into `back`, and answers the body's length.
 pub fn round_trip<S: Scheme>(
     scheme: &mut S,

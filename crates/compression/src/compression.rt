@@ -35,6 +35,7 @@ pub trait Compression {
 
     ghost bytes: { (f : Self) (h m : List ℕ) → Bytes h → Bytes m → Bytes (value f h m) };
 
+    // Kept beside the constants, since both functions are public.
     final fn block_len() -> usize
         ensures { result ≡ WIDTH }
     {
@@ -63,6 +64,7 @@ fn check_part(width: usize, len: usize) -> Result<(), Refusal>
 }
 
 // The refusal of the first of three parts whose length is not `width`.
+// Kept a number: who calls it hands in a `WIDTH` of its own, which a type would say no shorter.
 pub fn check_parts(width: usize, h: usize, m: usize, out: usize) -> Result<(), Refusal>
     ensures { result ≡ answer width h m out }
 {

@@ -10,15 +10,15 @@ pub mod ops;
 // The longest width.
 const LONGEST: usize = 64;
 
-// The first bytes are the part; those behind the width do not count. The array is as long as the
-// longest width, since an array cannot take its length from F.
+// The first bytes are the part; those behind the width do not count. Kept longer than most parts:
+// without a heap it is an array, and an array cannot take its length from F.
 pub struct Part<F: Compression> {
     bytes: [u8; LONGEST],
     of: PhantomData<F>,
     ghost long: { length (take F.WIDTH bytes) ≡ F.WIDTH },
 }
 
-// Written out, since a derive would ask that F itself can be copied.
+// Kept by hand: a derive asks that F itself can be copied, and a function with a key must not be.
 impl<F: Compression> Copy for Part<F> {}
 
 impl<F: Compression> Clone for Part<F> {

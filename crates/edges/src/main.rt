@@ -70,6 +70,7 @@ fn show_tag(rt: &HostRuntime, n: usize) -> io::Result<()> {
 }
 
 // Compresses zero bytes, and shows the answer.
+// Kept here and in key_edges: two lines, of which the crate `show` has what is said.
 fn show_parts(rt: &HostRuntime, h: usize, m: usize, out: usize) -> io::Result<()> {
     let line = Compressed::from_zeros(rt.alloc(), &mut Trial, h, m, out)?;
     println!(rt; "{line}")

@@ -15,6 +15,7 @@ fn read_half<W: Word>(half: &[u8]) -> [W; 8]
 {
     let n = W::BYTES;
     let mut words = [W::default(); 8];
+    // Cut by hand: of what is written in a `zip` of `iter_mut` and `chunks_exact` nothing is known.
     for (i, word) in words.iter_mut().enumerate() {
         *word = W::read(&half[n * i..n * (i + 1)]);
     }

@@ -34,6 +34,7 @@ pub trait Word: Bits + 'static {
     ghost table: { length Self.sizes.constants ≡ Self.sizes.rounds };
 }
 
+// Kept: an impl for each type. They name constants and distances, and nothing else.
 impl Word for u32 {
     ghost enough = { Prim.search rules };
 

@@ -15,6 +15,7 @@ pub struct OffsetTable<F: Compression> {
     pub entries: [Part<F>; 8],
 }
 
+// Written out, as for `Part`.
 impl<F: Compression> Copy for OffsetTable<F> {}
 
 impl<F: Compression> Clone for OffsetTable<F> {

@@ -22,6 +22,7 @@ pub struct Pass<F: Compression> {
     pub value: Part<F>,
 }
 
+// Written out, as for `Part`.
 impl<F: Compression> Copy for Pass<F> {}
 
 impl<F: Compression> Clone for Pass<F> {

@@ -31,6 +31,7 @@ pub struct Rule<F: Compression> {
     pub feed: Feed<F>,
 }
 
+// Written out, as for `Part`, and so below.
 impl<F: Compression> Copy for Feed<F> {}
 
 impl<F: Compression> Clone for Feed<F> {

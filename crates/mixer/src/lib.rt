@@ -50,6 +50,7 @@ fn mix(h: &[u8], m: &[u8], out: &mut [u8])
     requires out { length out.old ≡ 48 }
     ensures { out.new ≡ mixed h.now m.now }
 {
+    // The two parts by index, since they run in opposite directions.
     for (i, o) in out.iter_mut().enumerate() {
         let sum = 3 * usize::from(h[i]) + 5 * usize::from(m[47 - i]) + 7 * i + 1;
         *o = (sum % 256) as u8;

@@ -115,6 +115,8 @@ impl Case {
     }
 
     fn tell_over<F: Compression + Drop>(self, heap: Global, f: F) -> Result<String, AllocError> {
+        // Kept three arms: each makes a type of its own, and the two that set a tag's length have no
+        // trait in common.
         match self.mode {
             Mode::Omd => self.tell_by(heap, Omd::new(f), |omd, n| omd.set_tag_len(n)),
             Mode::Serial => self.tell_by(heap, Serial::new(f), |serial, n| serial.set_tag_len(n)),

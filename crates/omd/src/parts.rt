@@ -67,6 +67,8 @@ fn last_block<F: Compression>(
     Part::compressed(f, pass.value ^ pass.offset ^ ending, Part::padded(page))
 }
 
+// Kept as a clause, here and below: that the table is filled, which is a fact of the table and of F
+// together.
 // The page in `src` to its ciphertext in `dst`, or back; then the page's part of the tag.
 pub(crate) fn run_page<F: Compression>(
     f: &mut F,

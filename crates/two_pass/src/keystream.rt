@@ -8,6 +8,7 @@ use compression::compression::Compression;
 use compression::part::Part;
 use frames::rule::Feed;
 
+// Kept beside the two markers below: definitions speak of it, and a type cannot stand there.
 // In serial each block comes from the one before and the page, in counter from its index alone.
 #[derive(Clone, Copy)]
 pub enum Keystream {

@@ -1,6 +1,6 @@
 // The kinds of blocks.
 ghost use Rattle.std.specs.Prelude.{◌≡◌, if◌then◌else◌, nat_lt};
-ghost use Rattle.two_pass.specs.Kinds.{ad_kinds, number_of, page_kinds};
+ghost use Rattle.two_pass.specs.Kinds.{number_of};
 
 // A block's kind says how many times L* go into its mask.
 #[derive(Clone, Copy)]

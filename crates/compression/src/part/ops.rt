@@ -38,6 +38,8 @@ impl<F: Compression> Part<F> {
         Part::front(room)
     }
 
+    // Kept apart, this one, the next two and `^`: one function over all would take a closure that
+    // fills bytes, with a clause of its own for what it writes.
     // A copy of bytes, filled by 80 and zeros if they are fewer than the width.
     pub fn padded(bytes: &[u8]) -> Part<F>
         requires { length bytes.now ≤ F.WIDTH }
