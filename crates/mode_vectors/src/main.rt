@@ -33,6 +33,7 @@ impl fmt::Display for Case {
 }
 
 // What is said of one case.
+// Kept beside that of mode_cases, which chooses a mode and a function by what it reads.
 fn told(heap: Global, nonce: &[u8], case: Case) -> Result<String, AllocError> {
     let mut omd = Omd::new(Mixer);
     if let Err(refusal) = omd.set_tag_len(case.tag) {

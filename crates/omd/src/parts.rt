@@ -15,6 +15,7 @@ use frames::rule::{Direction, Feed, Rule};
 use frames::sums::{hash, sum_front};
 
 // D(1) and H(1).
+// Kept a number with a clause: of a set-up, whose type bounds it, F is lent at the same time.
 pub(crate) fn begin<F: Compression>(
     f: &mut F,
     table: &OffsetTable<F>,

@@ -90,6 +90,7 @@ fn check_inputs<'a>(limits: Limits, nonce: &'a [u8], ad: &'a [u8]) -> Result<Inp
 
 // The inputs and the length of the body of a page that may be sealed into `room` bytes, by a mode
 // whose tag has `tag` bytes.
+// Kept a number with a clause, here and below: what bounds a tag's length stands in the crates above.
 pub(crate) fn may_seal<'a>(
     tag: usize,
     nonce: &'a [u8],

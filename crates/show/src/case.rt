@@ -25,6 +25,7 @@ pub fn tell<S: Scheme>(heap: Global, scheme: &mut S, inputs: &Inputs) -> Result<
 }
 
 // The same, by these buffers.
+// Kept apart: the three parts of the inputs, so that clauses speak of slices.
 fn tell_in<S: Scheme>(
     heap: Global,
     scheme: &mut S,

@@ -116,6 +116,7 @@ pub(crate) fn hash_page<F: Compression>(
 }
 
 // ⟨8τ⟩.
+// Kept a number with a clause: it needs nothing else of a set-up, whose type bounds it.
 pub(crate) fn tag_bits<F: Compression>(tag_len: usize) -> Part<F>
     requires { tag_len ≤ 64 }
     ensures { bytes_of result ≡ digits F.WIDTH (8 * tag_len) }
