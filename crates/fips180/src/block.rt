@@ -28,6 +28,7 @@ fn write_half<W: Word>(words: [W; 8], out: &mut [u8])
     ensures { out.new ≡ flat_map (digits W.sizes.bytes) (map W.val words) }
 {
     let n = W::BYTES;
+    // By index: of what is written in a `zip` with `chunks_exact_mut` nothing is known.
     for (i, word) in words.iter().enumerate() {
         word.write(&mut out[n * i..n * (i + 1)]);
     }

@@ -32,7 +32,7 @@ impl<F: Compression> Clone for Pass<F> {
 }
 
 // One full block from `src` to `dst`.
-// Kept as clauses here and above: that F means the same after a call, which no type of one value
+// Kept as clauses, here and below: that F means the same after a call, which no type of one value
 // says; the bounds of the index and of the lengths, which the caller's loop knows; and that `dst` is
 // as long as `src`, since no ghost field can stand beside a `&mut`.
 // Kept apart: `f` and the table. The one is changed and the other is read, and a struct of both

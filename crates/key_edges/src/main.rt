@@ -12,6 +12,7 @@ use std::alloc::{AllocError, Global};
 use std::io;
 
 // Compresses zero bytes, and shows the answer.
+// Kept here and in edges: two lines, of which the crate `show` has what is said.
 fn show_parts<F: Compression + Drop>(
     rt: &HostRuntime,
     mut f: F,

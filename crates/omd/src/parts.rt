@@ -15,7 +15,8 @@ use frames::rule::{Direction, Feed, Rule};
 use frames::sums::{hash, sum_front};
 
 // D(1) and H(1).
-// Kept a number with a clause: of a set-up, whose type bounds it, F is lent at the same time.
+// Kept a number with a clause: of a set-up, whose type bounds it, F is lent at the same time. And
+// kept apart: here the nonce and below the associated data, each alone.
 pub(crate) fn begin<F: Compression>(
     f: &mut F,
     table: &OffsetTable<F>,

@@ -29,7 +29,7 @@ pub struct Limits {
     pub page: usize,
 }
 
-// The end of a body that its tag stands at.
+// The end of a body that its tag stands at. Kept an enum: a mode names it as a value.
 #[derive(Clone, Copy)]
 pub enum End {
     Front,

@@ -28,7 +28,7 @@ fn shown(b: u8) -> char
     ensures { (result ≡ cell b) × (result < 128) }
 {
     match b {
-        0x20..=0x5f => b as char,
+        0x20..=0x5f => char::from(b),
         _ => '~',
     }
 }

@@ -14,11 +14,11 @@ pub(crate) enum Kind {
     Keystream = 6,
 }
 
-impl Kind {
-    pub(crate) fn number(self) -> u8
-        ensures { result ≡ number_of self }
-    {
-        self as u8
+impl From<Kind> for u8 {
+    ghost from_gives = { λ kind n. n ≡ number_of kind };
+
+    fn from(kind: Kind) -> u8 {
+        kind as u8
     }
 }
 

@@ -26,7 +26,7 @@ fn add_if<F: Compression>(set: bool, x: Part<F>, sum: Part<F>) -> Part<F>
 fn times<F: Compression>(star: Part<F>, kind: Kind) -> Part<F>
     ensures { bytes_of result ≡ times F.WIDTH F.FEEDBACK (bytes_of star) (number_of kind) }
 {
-    let j = kind.number();
+    let j = u8::from(kind);
     let two = star.double();
     let four = two.double();
     let fours = add_if(j / 4 % 2 == 1, four, Part::zeros());
@@ -35,6 +35,7 @@ fn times<F: Compression>(star: Part<F>, kind: Kind) -> Part<F>
 }
 
 // D(0).
+// Kept apart: here the nonce and below the associated data, each alone.
 pub(crate) fn begin<F: Compression>(f: &mut F, nonce: &[u8]) -> Part<F>
     requires { length nonce.now ≤ 31 }
     ensures kept { F.value f.new ≡ F.value f.old }
