@@ -1,20 +1,12 @@
 // Bytes in place.
-ghost use Rattle.std.specs.Prelude.{◌≡◌, ℕ, ◌≤◌, ◌++◌, length, drop, fold, Decides, bit_or, bit_xor};
-ghost use Rattle.std.specs.List.{zip};
-ghost use Rattle.base.specs.Bytes.{xor, zeros, digits, filled, padded, shifted};
+ghost use Rattle.std.specs.Prelude.{◌≡◌, ◌≤◌, ◌++◌, length, drop, Decides, nat_le, slice_index};
+ghost use Rattle.base.specs.Bytes.{xor, zeros, digits, filled, padded, shifted, double};
 
 // Zeroes all of `text`.
 pub fn clear(text: &mut [u8])
     ensures { text.new ≡ zeros (length text.old) }
 {
     text.fill(0);
-}
-
-// The bits in which two parts differ, those of all bytes in one.
-fn difference(a: &[u8], b: &[u8]) -> u8
-    ensures { result ≡ fold (λ bits (p : ℕ × ℕ). bit_or bits (bit_xor p.0 p.1)) 0 (zip a.now b.now) }
-{
-    a.iter().zip(b).fold(0, |bits, (x, y)| bits | (x ^ y))
 }
 
 // Whether two parts are the same bytes. It looks at every byte, and does not stop at a difference,
@@ -25,7 +17,13 @@ pub fn agree(a: &[u8], b: &[u8]) -> bool
     if a.len() != b.len() {
         return false;
     }
-    difference(a, b) == 0
+    let mut differing = 0u8;
+    // By index: of a `zip` and a `fold` no wrong start can be told from a right one, since neither
+    // is proved where the iterator skips.
+    for i in 0..a.len() {
+        differing |= a[i] ^ b[i];
+    }
+    differing == 0
 }
 
 // XORs `src` into the front of `dst`, as far as both reach.
@@ -50,6 +48,31 @@ pub fn shift_left(x: &mut [u8])
         let carry = if i + 1 < x.len() { x[i + 1] / 128 } else { 0 };
         x[i] = x[i] % 128 * 2 + carry;
     }
+}
+
+// The longest string of bytes that is doubled.
+const LONGEST: usize = 64;
+
+// 2·x in the field with this feedback number, whatever the length.
+pub fn double_into(x: &mut [u8], feedback: u16)
+    requires { length x.old ≤ 64 }
+    ensures { x.new ≡ double feedback x.old }
+{
+    let top = top_bit(x);
+    shift_left(x);
+    if top {
+        let mut room = [0; LONGEST];
+        let number = &mut room[..x.len()];
+        number_into(number, usize::from(feedback));
+        xor_into(x, number);
+    }
+}
+
+// Whether the top bit is 1.
+fn top_bit(x: &[u8]) -> bool
+    ensures { result ≡ nat_le 128 (slice_index x.now 0) }
+{
+    !x.is_empty() && x[0] >= 128
 }
 
 // `part` filled to the length of `out` by zeros.

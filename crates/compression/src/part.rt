@@ -1,5 +1,5 @@
 // A part of a compression function: as many bytes as its width, as a value.
-ghost use Rattle.std.specs.Prelude.{◌≡◌, length, take};
+ghost use Rattle.std.specs.Prelude.{◌≡◌, length, take, ⊤};
 
 use crate::compression::Compression;
 use std::alloc::AllocError;
@@ -22,6 +22,10 @@ pub struct Part<F: Compression> {
 impl<F: Compression> Copy for Part<F> {}
 
 impl<F: Compression> Clone for Part<F> {
+    ghost is_clone = { λ x y. y ≡ x };
+
+    ghost is_infallible = { λ _. ⊤ };
+
     fn clone(&self) -> Result<Part<F>, AllocError> {
         Ok(*self)
     }

@@ -15,7 +15,7 @@ module _ {X : Type 0} {g : _} (w : ℕ) (z : 32 ≤ w) (F : List ℕ → List �
   tally_more : (D : ℕ → List ℕ) (close : ℕ → List ℕ → List ℕ → List ℕ) (i : ℕ) (acc b r : List ℕ) → 0 < length r → tally w F D close i acc (b ∷ cut (2 * w) r) ≡ tally w F D close (suc i) (xor acc (hashed w F (D i) b)) (cut (2 * w) r)
   tally_more D close i acc b r l = let pos : 0 < 2 * w = omega arith in rw (cut_more (2 * w) pos r l)
 
-  summing_more : (r r' : Pass X g) (rest : List ℕ) → 2 * w < length rest
+  pub summing_more : (r r' : Pass X g) (rest : List ℕ) → 2 * w < length rest
       → Summing w F table start src r rest
       → Absorbed w F table r (take (2 * w) rest) r'
       → Summing w F table start src r' (drop (2 * w) rest)

@@ -1,5 +1,5 @@
 // L* and the table of offsets.
-ghost use Rattle.std.specs.Prelude.{◌≡◌, ℕ, ◌<◌, ◌≤◌, List};
+ghost use Rattle.std.specs.Prelude.{◌≡◌, ℕ, ◌<◌, ◌≤◌, List, ⊤};
 ghost use Rattle.std.specs.Int.Count.{count_trailing_zeros};
 ghost use Rattle.base.specs.Bytes.{xor, doubled};
 ghost use Rattle.compression.specs.Parts.{bytes_of};
@@ -19,6 +19,10 @@ pub struct OffsetTable<F: Compression> {
 impl<F: Compression> Copy for OffsetTable<F> {}
 
 impl<F: Compression> Clone for OffsetTable<F> {
+    ghost is_clone = { λ x y. y ≡ x };
+
+    ghost is_infallible = { λ _. ⊤ };
+
     fn clone(&self) -> Result<OffsetTable<F>, AllocError> {
         Ok(*self)
     }

@@ -1,5 +1,5 @@
 // The pass between a page and its ciphertext.
-ghost use Rattle.std.specs.Prelude.{◌≡◌, ℕ, ◌+◌, ◌<◌, ◌≤◌, List, length};
+ghost use Rattle.std.specs.Prelude.{◌≡◌, ℕ, ◌+◌, ◌<◌, ◌≤◌, List, length, ⊤};
 ghost use Rattle.base.specs.Bytes.{cut};
 ghost use Rattle.compression.specs.Parts.{bytes_of};
 ghost use Rattle.frames.specs.Chain.{chain};
@@ -9,6 +9,7 @@ ghost use Rattle.frames.specs.Offsets.{Entries, delta};
 ghost use Rattle.frames.specs.Progress.{Going, Turned};
 
 use crate::offsets::OffsetTable;
+pub use crate::rule::Direction;
 use crate::rule::Rule;
 use compression::compression::Compression;
 use compression::part::Part;
@@ -26,6 +27,10 @@ pub struct Pass<F: Compression> {
 impl<F: Compression> Copy for Pass<F> {}
 
 impl<F: Compression> Clone for Pass<F> {
+    ghost is_clone = { λ x y. y ≡ x };
+
+    ghost is_infallible = { λ _. ⊤ };
+
     fn clone(&self) -> Result<Pass<F>, AllocError> {
         Ok(*self)
     }

@@ -1,9 +1,10 @@
 // What a pass is made by: its direction, and what feeds its chain.
-ghost use Rattle.std.specs.Prelude.{◌≡◌};
+ghost use Rattle.std.specs.Prelude.{◌≡◌, ⊤};
 ghost use Rattle.compression.specs.Parts.{bytes_of};
 ghost use Rattle.frames.specs.Directions.{page_of};
 ghost use Rattle.frames.specs.Feeds.{follow};
 
+pub use crate::pass::pass_all;
 use compression::compression::Compression;
 use compression::part::Part;
 use std::alloc::AllocError;
@@ -35,6 +36,10 @@ pub struct Rule<F: Compression> {
 impl<F: Compression> Copy for Feed<F> {}
 
 impl<F: Compression> Clone for Feed<F> {
+    ghost is_clone = { λ x y. y ≡ x };
+
+    ghost is_infallible = { λ _. ⊤ };
+
     fn clone(&self) -> Result<Feed<F>, AllocError> {
         Ok(*self)
     }
@@ -43,6 +48,10 @@ impl<F: Compression> Clone for Feed<F> {
 impl<F: Compression> Copy for Rule<F> {}
 
 impl<F: Compression> Clone for Rule<F> {
+    ghost is_clone = { λ x y. y ≡ x };
+
+    ghost is_infallible = { λ _. ⊤ };
+
     fn clone(&self) -> Result<Rule<F>, AllocError> {
         Ok(*self)
     }

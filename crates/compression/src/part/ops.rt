@@ -1,17 +1,17 @@
 // What parts are made from, and made into.
-ghost use Rattle.std.specs.Prelude.{◌≡◌, ◌*◌, ◌≤◌, length, take, drop, nat_le, slice_index};
-ghost use Rattle.base.specs.Bytes.{Xored, xor, zeros, padded, filled, digits, double, shifted};
+ghost use Rattle.std.specs.Prelude.{◌≡◌, ◌*◌, ◌≤◌, length, take, drop};
+ghost use Rattle.base.specs.Bytes.{Xored, xor, zeros, padded, filled, digits, double};
 ghost use Rattle.compression.specs.Parts.{bytes_of};
 
 use crate::compression::Compression;
 use crate::part::{LONGEST, Part};
-use base::slices::{fill_into, number_into, pad_into, shift_left, xor_into};
+use base::slices::{double_into, fill_into, number_into, pad_into, xor_into};
 use std::marker::PhantomData;
 use std::ops::BitXor;
 
 impl<F: Compression> Part<F> {
     // The front of an array.
-    fn front(bytes: [u8; LONGEST]) -> Part<F>
+    pub fn front(bytes: [u8; LONGEST]) -> Part<F>
         ensures { bytes_of result ≡ take F.WIDTH bytes }
     {
         Part {
@@ -113,32 +113,14 @@ impl<F: Compression> Part<F> {
         xor_into(dst, self.as_slice());
     }
 
-    // Whether the top bit is 1.
-    fn top_bit(self) -> bool
-        ensures { result ≡ nat_le 128 (slice_index (bytes_of self) 0) }
-    {
-        self.bytes[0] >= 128
-    }
-
-    // All bits one place to the left.
-    fn shifted(self) -> Part<F>
-        ensures { bytes_of result ≡ shifted (bytes_of self) }
-    {
-        let w = F::WIDTH;
-        let mut bytes = self.bytes;
-        shift_left(&mut bytes[..w]);
-        Part::front(bytes)
-    }
-
     // 2·x.
     pub fn double(self) -> Part<F>
         ensures { bytes_of result ≡ double F.FEEDBACK (bytes_of self) }
     {
-        let shifted = self.shifted();
-        if !self.top_bit() {
-            return shifted;
-        }
-        shifted ^ Part::number(usize::from(F::FEEDBACK))
+        let w = F::WIDTH;
+        let mut bytes = self.bytes;
+        double_into(&mut bytes[..w], F::FEEDBACK);
+        Part::front(bytes)
     }
 
     // F(h, m).
