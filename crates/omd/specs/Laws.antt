@@ -115,6 +115,19 @@ module _ (w fb : ℕ) (z : 0 < w) (F : List ℕ → List ℕ → List ℕ) (size
         ∙ ap (λ t. t ++ part) (take_at ct (post_of 0 (length page - 0) old) (length page) lc)
         ∙ ap₂ (λ x y. x ++ y) c (p ∙ ap₂ (λ i t. take i t) k e)
 
+    -- the same of two parts that were written apart: the ciphertext, and then the tag
+    pub sealed_parts : (a page ct block part : List ℕ) → ct ≡ cipher w fb F tau n page → block ≡ xor (page_tag w fb F tau n page) (ad_tag w fb F a) → part ≡ take tau block → ct ++ part ≡ sealed w fb F tau n a page
+    sealed_parts a page ct block part c e p =
+        let old = ct ++ part in
+        let post = post_of 0 (length page - 0) old in
+        let lc : length ct ≡ length page = ap length c ∙ cipher_length page in
+        let lp : length part ≡ tau = ap length (p ∙ ap (take tau) e) ∙ tag_length a page in
+        let l : length old ≡ length page + tau = length-append ct part ∙ omega arith in
+        let la : length (ct ++ post) ≡ length page + tau = simp (length-append, length-drop) (omega arith) in
+        let k : length (take (length old - length page) (drop (length page) (ct ++ post))) ≡ tau = simp (length-take, length-drop) (omega arith) in
+        sym (put_end (length page) (length old - length page) (ct ++ post) part (omega arith) ∙ ap (λ t. t ++ part) (take_at ct post (length page) lc))
+        ∙ sealed_is a page old ct block part l c e (p ∙ ap (λ i. take i block) (sym k))
+
     -- a page was recovered from the front of a body, and `block` begins with its tag
     module _ (a : List ℕ) (k : ℕ) (body page block : List ℕ) (ek : k ≡ length page) (l : length body ≡ k + tau) (c : take (k - 0) body ≡ cipher w fb F tau n page) (e : block ≡ xor (page_tag w fb F tau n page) (ad_tag w fb F a)) where
       back : length body - tau ≡ k

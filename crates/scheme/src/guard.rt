@@ -5,13 +5,10 @@ ghost use Rattle.base.specs.declared.refusal.Cause.TheVariants.{NotGenuine};
 ghost use Rattle.scheme.specs.Meaning.{mode};
 
 use crate::inputs::Inputs;
-use crate::limits::Fault;
+use crate::limits::{Fault, LONGEST_TAG};
 use crate::mode::Mode;
 use base::refusal::Cause;
 use base::slices::{agree, clear};
-
-// The longest tag of any mode.
-const LONGEST_TAG: usize = 64;
 
 // An opened page whose tag has not agreed yet. When the guard ends, by whichever way out, the page
 // is zeroed, unless the comparison of the tags released it.
@@ -53,10 +50,9 @@ pub(crate) fn open_into<M: Mode>(
         page,
         released: false,
     };
-    let mut room = [0; LONGEST_TAG];
-    let tag = &mut room[..len];
-    m.recover(inputs, body, guard.page, tag);
-    guard.released = agree(tag, M::tag_end().tag_part(body, len));
+    let mut tag = [0; LONGEST_TAG];
+    m.recover(inputs, body, guard.page, &mut tag);
+    guard.released = agree(&tag[..len], M::tag_end().tag_part(body, len));
     if !guard.released {
         return Err(Fault(Cause::NotGenuine, 0));
     }

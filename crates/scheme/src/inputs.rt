@@ -1,4 +1,4 @@
-// A nonce and associated data that every mode takes.
+// A nonce and associated data, neither longer than a mode takes.
 ghost use Rattle.std.specs.Prelude.{◌≤◌, length};
 
 // Their lengths were looked at once, when this was made.

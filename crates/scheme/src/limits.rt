@@ -18,6 +18,9 @@ pub const LONGEST_AD: usize = 1024;
 
 const LONGEST_PAGE: usize = 4096;
 
+// The longest tag of any mode.
+pub const LONGEST_TAG: usize = 64;
+
 // The layer of the modes.
 const LAYER: u8 = 1;
 
@@ -55,11 +58,18 @@ impl From<Fault> for Refusal {
     ghost from_gives = { λ f e. e ≡ refusal f.0 1 f.1 };
 
     fn from(fault: Fault) -> Refusal {
-        Refusal {
-            cause: fault.0,
-            layer: LAYER,
-            figure: fault.1,
-        }
+        by_mode(fault.0, fault.1)
+    }
+}
+
+// A refusal by a mode, which is layer 1.
+pub fn by_mode(cause: Cause, figure: usize) -> Refusal
+    ensures { result ≡ refusal cause 1 figure }
+{
+    Refusal {
+        cause,
+        layer: LAYER,
+        figure,
     }
 }
 

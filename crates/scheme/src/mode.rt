@@ -1,12 +1,13 @@
-// What a mode gives, and how any mode is a scheme.
-ghost use Rattle.std.specs.Prelude.{◌≡◌, ℕ, ◌+◌, ◌≤◌, List, length, ◌==◌};
+// What a mode gives, how any mode seals and opens under the limits, and how a lawful one is a scheme.
+ghost use Rattle.std.specs.Prelude.{◌≡◌, ℕ, ◌+◌, ◌≤◌, List, length, ◌==◌, IfErr};
 ghost use Rattle.scheme.specs.Meaning.{Lawful, mode};
+ghost use Rattle.scheme.specs.Answers.{Opened, Sealed};
 ghost use Rattle.scheme.specs.Recovery.{Recovered};
 ghost use Rattle.scheme.specs.declared.limits.End.{End};
 
 use crate::guard::open_into;
 use crate::inputs::Inputs;
-use crate::limits::{End, Limits, limits_of, may_open, may_seal};
+use crate::limits::{End, LONGEST_TAG, Limits, limits_of, may_open, may_seal};
 use crate::scheme::Scheme;
 use base::refusal::Refusal;
 
@@ -36,20 +37,58 @@ pub trait Mode {
         ensures kept { mode (tag self.new) end (E self.new) ≡ mode (tag self.old) end (E self.old) }
         ensures body { body.new ≡ E self.old inputs.entry.nonce.now inputs.entry.ad.now page.now };
 
-    // Writes to `page` the only page that can have given `body`, and to `out` that page's tag. The
-    // page is genuine if the body has this tag.
-    fn recover(&mut self, inputs: Inputs, body: &[u8], page: &mut [u8], out: &mut [u8])
+    // Writes to `page` the only page that can have given `body`, and to the front of `out` that
+    // page's tag. The page is genuine if the body has this tag.
+    fn recover(&mut self, inputs: Inputs, body: &[u8], page: &mut [u8], out: &mut [u8; LONGEST_TAG])
         requires page { length page.old ≤ 4096 }
         requires body { length body.now ≡ length page.old + tag self.old }
-        requires out { length out.old ≡ tag self.old }
         ensures kept { mode (tag self.new) end (E self.new) ≡ mode (tag self.old) end (E self.old) }
         ensures recovered { Recovered (mode (tag self.old) end (E self.old)) inputs.entry.nonce.now inputs.entry.ad.now body.now page.new out.new };
 
-    ghost lawful: { (s : Self) → Lawful (mode (tag s) end (E s)) };
+    ghost tags: { (s : Self) → (4 ≤ tag s) × (tag s ≤ 64) };
 }
 
-// Each mode is a scheme of layer 1.
-impl<M: Mode> Scheme for M {
+// A mode whose bodies tell their pages.
+pub trait LawfulMode: Mode {
+    ghost lawful: { (s : Self) → Lawful (mode (Self.tag s) Self.end (Self.E s)) };
+}
+
+// Seals a page by a mode: sealing of any scheme that is a mode.
+pub fn seal_by<M: Mode>(
+    m: &mut M,
+    nonce: &[u8],
+    ad: &[u8],
+    page: &[u8],
+    out: &mut [u8],
+) -> Result<usize, Refusal>
+    ensures kept { mode (M.tag m.new) M.end (M.E m.new) ≡ mode (M.tag m.old) M.end (M.E m.old) }
+    ensures layer { IfErr result (λ e. e.layer ≡ 1) }
+    ensures sealed { Sealed (mode (M.tag m.old) M.end (M.E m.old)) nonce.now ad.now page.now out.old result out.new }
+{
+    let (inputs, n) = may_seal(m.tag_len(), nonce, ad, page, out.len())?;
+    m.encrypt(inputs, page, &mut out[..n]);
+    Ok(n)
+}
+
+// Opens a body by a mode: opening of any scheme that is a mode.
+pub fn open_by<M: Mode>(
+    m: &mut M,
+    nonce: &[u8],
+    ad: &[u8],
+    body: &[u8],
+    out: &mut [u8],
+) -> Result<usize, Refusal>
+    ensures kept { mode (M.tag m.new) M.end (M.E m.new) ≡ mode (M.tag m.old) M.end (M.E m.old) }
+    ensures layer { IfErr result (λ e. e.layer ≡ 1) }
+    ensures opened { Opened (mode (M.tag m.old) M.end (M.E m.old)) nonce.now ad.now body.now out.old result out.new }
+{
+    let (inputs, n) = may_open(m.tag_len(), nonce, ad, body, out.len())?;
+    open_into(m, inputs, body, &mut out[..n])?;
+    Ok(n)
+}
+
+// Each lawful mode is a scheme of layer 1.
+impl<M: LawfulMode> Scheme for M {
     ghost meaning = { λ s. mode (M.tag s) M.end (M.E s) };
 
     ghost layers = { λ _ _ layer. (layer == 1) };
@@ -71,9 +110,7 @@ impl<M: Mode> Scheme for M {
         body: &[u8],
         out: &mut [u8],
     ) -> Result<usize, Refusal> {
-        let (inputs, n) = may_open(self.tag_len(), nonce, ad, body, out.len())?;
-        open_into(self, inputs, body, &mut out[..n])?;
-        Ok(n)
+        open_by(self, nonce, ad, body, out)
     }
 
     fn seal(
@@ -83,8 +120,6 @@ impl<M: Mode> Scheme for M {
         page: &[u8],
         out: &mut [u8],
     ) -> Result<usize, Refusal> {
-        let (inputs, n) = may_seal(self.tag_len(), nonce, ad, page, out.len())?;
-        self.encrypt(inputs, page, &mut out[..n]);
-        Ok(n)
+        seal_by(self, nonce, ad, page, out)
     }
 }

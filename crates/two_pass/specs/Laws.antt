@@ -1,6 +1,6 @@
 -- A body has the page's length and the tag's, and tells its page.
 use Rattle.std.specs.Prelude.{◌≡◌, ℕ, suc, ◌+◌, ◌-◌, ◌*◌, ◌/◌, ◌%◌, ◌<◌, ◌≤◌, true, false, cond, List, [], ◌∷◌, ◌++◌, length, take, drop, ◌==◌}
-use Rattle.std.proofs.Math.Path.{sym, ap, ap₂}
+use Rattle.std.proofs.Math.Path.{refl, sym, ap, ap₂}
 use Rattle.std.proofs.Common.{◌∙◌, arith}
 use borrow.Rule.Slice.PartMut.{put_mid, post_of}
 use Rattle.std.proofs.lemmas.List.{length-take, length-drop, length-append, take_at, drop_at, take-append-drop}
@@ -142,6 +142,24 @@ module _ (w fb : ℕ) (z : 0 < w) (F : List ℕ → List ℕ → List ℕ) (size
         let em' : block ≡ tag_block w fb F d (ad_sum w fb F d a) page = em ∙ ap (λ G. tag_block w fb G d (ad_sum w fb G d a) page) e1 in
         let ec' : ct ≡ cipher w fb F d k tau v page = ec ∙ ap₂ (λ G i. cipher w fb G d k i v page) e2 er in
         body_is d ld k tau few a page old block v part ct t et l em' (ev ∙ ap₂ (λ i x. filled i (take (t - 0) x)) eu ef) ep ec' ∙ ap (λ x. body w fb F x k tau a page) ed
+
+    -- the same of two parts that were written apart: the tag, and then the ciphertext
+    pub seals_parts : (page block v part ct : List ℕ)
+        → block ≡ tag_block w fb V1 d (ad_sum w fb V1 d a) page → part ≡ take t block → v ≡ filled u part → ct ≡ cipher w fb V2 d k r v page
+        → part ++ ct ≡ sealed w fb F k tau n a page
+    seals_parts page block v part ct em ep ev ec =
+        let old = part ++ ct in
+        let post = post_of 0 (t - 0) old in
+        let em' : block ≡ tag_block w fb F d (ad_sum w fb F d a) page = em ∙ ap (λ G. tag_block w fb G d (ad_sum w fb G d a) page) e1 in
+        let ec' : ct ≡ cipher w fb F d k tau v page = ec ∙ ap₂ (λ G i. cipher w fb G d k i v page) e2 er in
+        let lv : length v ≡ w = ap length ev ∙ length-filled u part ∙ eu in
+        let lp : length part ≡ t = ap length (ep ∙ ap₂ (λ i x. take i x) et em') ∙ tag_long d ld k tau few a page ∙ sym et in
+        let lc : length ct ≡ length page = ap length ec' ∙ cipher_length d ld k tau few v page lv in
+        let l : length old ≡ length page + t = length-append part ct ∙ omega arith in
+        let front : length (take (t - 0) old) ≡ t = simp length-take (omega arith) in
+        let la : length (part ++ post) ≤ t + (length old - t) = simp (length-append, length-drop) (omega arith) in
+        sym (put_end t (length old - t) (part ++ post) ct la ∙ ap (λ x. x ++ ct) (take_at part post t lp))
+        ∙ seals page old block block v part ct l em refl (ev ∙ ap (filled u) (ep ∙ ap (λ i. take i block) (sym (from_zero t)))) (ep ∙ ap (λ i. take i block) (sym front)) ec
 
     pub recovers : (whole page block v : List ℕ) → length whole ≡ length page + t
         → v ≡ filled u (take (t - 0) whole) → take (length whole - t) (drop t whole) ≡ cipher w fb V1 d k r v page → block ≡ tag_block w fb V2 d (ad_sum w fb V2 d a) page

@@ -19,8 +19,8 @@ use frames::offsets::OffsetTable;
 use frames::rule::Direction;
 use frames::setup::Setup;
 use scheme::inputs::Inputs;
-use scheme::limits::End;
-use scheme::mode::Mode;
+use scheme::limits::{End, LONGEST_TAG};
+use scheme::mode::{LawfulMode, Mode};
 
 impl<F: Compression> Omd<F> {
     // OMD over `f`, with a tag of 16 bytes.
@@ -67,6 +67,41 @@ impl<F: Compression> Mode for Omd<F> {
 
     ghost E = { λ s. sealed F.WIDTH F.FEEDBACK (F.value s.setup.f) s.setup.tag_len };
 
+    ghost tags = { λ s.
+        let most = F.wide.1 in
+        let low = s.setup.low in
+        let high = s.setup.high in
+        (low, omega arith) };
+
+    fn tag_len(&self) -> usize {
+        self.setup.tag_len
+    }
+
+    fn tag_end() -> End {
+        End::Back
+    }
+
+    fn encrypt(&mut self, inputs: Inputs, page: &[u8], body: &mut [u8]) {
+        let (cipher, tag) = body.split_at_mut(page.len());
+        self.run(Direction::Seal, inputs, page, cipher)
+            .write_front(tag);
+    }
+
+    fn recover(
+        &mut self,
+        inputs: Inputs,
+        body: &[u8],
+        page: &mut [u8],
+        out: &mut [u8; LONGEST_TAG],
+    ) {
+        let n = page.len();
+        let tag_len = self.setup.tag_len;
+        self.run(Direction::Open, inputs, &body[..n], page)
+            .write_front(&mut out[..tag_len]);
+    }
+}
+
+impl<F: Compression> LawfulMode for Omd<F> {
     ghost lawful = { λ s.
         let m = F.Compression in
         let least = m.wide.0 in
@@ -81,25 +116,4 @@ impl<F: Compression> Mode for Omd<F> {
           longer = λ n a p t h. sealed_length m.WIDTH m.FEEDBACK (omega arith) (m.value s.setup.f) (m.sized s.setup.f) s.setup.tag_len (omega arith) n a p;
           one_page = λ n a p q t h i e. sealed_same m.WIDTH m.FEEDBACK (omega arith) (m.value s.setup.f) (m.sized s.setup.f) s.setup.tag_len (omega arith) n a p q e;
         } };
-
-    fn tag_len(&self) -> usize {
-        self.setup.tag_len
-    }
-
-    fn tag_end() -> End {
-        End::Back
-    }
-
-    #[tactic(auto, unfolding(crate::specs::Omd::sealed))]
-    fn encrypt(&mut self, inputs: Inputs, page: &[u8], body: &mut [u8]) {
-        let (cipher, tag) = body.split_at_mut(page.len());
-        self.run(Direction::Seal, inputs, page, cipher)
-            .write_front(tag);
-    }
-
-    fn recover(&mut self, inputs: Inputs, body: &[u8], page: &mut [u8], out: &mut [u8]) {
-        let n = page.len();
-        self.run(Direction::Open, inputs, &body[..n], page)
-            .write_front(out);
-    }
 }

@@ -21,8 +21,8 @@ use frames::pass::pass_all;
 use frames::rule::{Direction, Rule};
 use frames::setup::Setup;
 use scheme::inputs::Inputs;
-use scheme::limits::End;
-use scheme::mode::Mode;
+use scheme::limits::{End, LONGEST_TAG};
+use scheme::mode::{LawfulMode, Mode};
 use std::marker::PhantomData;
 
 impl<F: Compression, K: Chaining> TwoPass<F, K> {
@@ -109,6 +109,43 @@ impl<F: Compression, K: Chaining> Mode for TwoPass<F, K> {
 
     ghost E = { λ s. sealed F.WIDTH F.FEEDBACK (F.value s.setup.f) K.keystream s.setup.tag_len };
 
+    ghost tags = { λ s.
+        let most = F.wide.1 in
+        let low = s.setup.low in
+        let high = s.setup.high in
+        (low, omega arith) };
+
+    fn tag_len(&self) -> usize {
+        self.setup.tag_len
+    }
+
+    fn tag_end() -> End {
+        End::Front
+    }
+
+    fn encrypt(&mut self, inputs: Inputs, page: &[u8], body: &mut [u8]) {
+        let (tag, cipher) = body.split_at_mut(self.setup.tag_len);
+        let (table, d) = self.prepare(inputs);
+        self.tag_block(&table, d, inputs, page).write_front(tag);
+        self.encipher(&table, Direction::Seal, d, Part::filled(tag), page, cipher);
+    }
+
+    fn recover(
+        &mut self,
+        inputs: Inputs,
+        body: &[u8],
+        page: &mut [u8],
+        out: &mut [u8; LONGEST_TAG],
+    ) {
+        let (tag, cipher) = body.split_at(self.setup.tag_len);
+        let (table, d) = self.prepare(inputs);
+        self.encipher(&table, Direction::Open, d, Part::filled(tag), cipher, page);
+        self.tag_block(&table, d, inputs, page)
+            .write_front(&mut out[..tag.len()]);
+    }
+}
+
+impl<F: Compression, K: Chaining> LawfulMode for TwoPass<F, K> {
     ghost lawful = { λ s.
         let m = F.Compression in
         let least = m.wide.0 in
@@ -126,27 +163,4 @@ impl<F: Compression, K: Chaining> Mode for TwoPass<F, K> {
           longer = λ n a p t h. body_long w m.FEEDBACK (omega arith) V (m.sized s.setup.f) (nonce_offset w m.FEEDBACK V n) (length-nonce w m.FEEDBACK (omega arith) V (m.sized s.setup.f) n) k s.setup.tag_len (omega arith) a p;
           one_page = λ n a p q t h i e. body_same w m.FEEDBACK (omega arith) V (m.sized s.setup.f) (nonce_offset w m.FEEDBACK V n) (length-nonce w m.FEEDBACK (omega arith) V (m.sized s.setup.f) n) k s.setup.tag_len (omega arith) a p q e;
         } };
-
-    fn tag_len(&self) -> usize {
-        self.setup.tag_len
-    }
-
-    fn tag_end() -> End {
-        End::Front
-    }
-
-    #[tactic(auto, unfolding(crate::specs::TwoPass::body))]
-    fn encrypt(&mut self, inputs: Inputs, page: &[u8], body: &mut [u8]) {
-        let (tag, cipher) = body.split_at_mut(self.setup.tag_len);
-        let (table, d) = self.prepare(inputs);
-        self.tag_block(&table, d, inputs, page).write_front(tag);
-        self.encipher(&table, Direction::Seal, d, Part::filled(tag), page, cipher);
-    }
-
-    fn recover(&mut self, inputs: Inputs, body: &[u8], page: &mut [u8], out: &mut [u8]) {
-        let (tag, cipher) = body.split_at(self.setup.tag_len);
-        let (table, d) = self.prepare(inputs);
-        self.encipher(&table, Direction::Open, d, Part::filled(tag), cipher, page);
-        self.tag_block(&table, d, inputs, page).write_front(out);
-    }
 }

@@ -1,5 +1,5 @@
-use Rattle.std.proofs.Common.{◌≡◌, length, take, sym, ap, ◌∙◌, arith}
-use Rattle.std.proofs.lemmas.List.{take-take}
+use Rattle.std.proofs.Common.{◌≡◌, ◌++◌, length, take, drop, sym, ap, ◌∙◌, arith}
+use Rattle.std.proofs.lemmas.List.{length-take, length-take-le, take_at}
 use Rattle.base.proofs.Parts.{from_zero}
 use Rattle.compression.specs.Parts.{bytes_of}
 use Rattle.omd.specs.Laws.{tells, only}
@@ -17,7 +17,11 @@ returns-clause-recovered g c =
     let cipher = ap (λ i. take i c.args.body.now) (from_zero k) ∙ c.run.ensures.cipher in
     let t = s.setup.tag_len in
     let block = bytes_of c.run.result in
-    let tag : take t c.write_front.new.out ≡ take t block = ap (take t) (c.write_front.ensures ∙ ap (λ i. take i block) c.requires.out) ∙ take-take t t block (omega arith) in
+    let most = q.wide.1 in
+    let high = s.setup.high in
+    let low : length (take t c.args.out.now) ≡ t = simp length-take (omega arith) in
+    let front : c.write_front.new.out ≡ take t block = c.write_front.ensures ∙ ap (λ i. take i block) low in
+    let tag : take t (c.write_front.new.out ++ drop t c.args.out.now) ≡ take t block = take_at c.write_front.new.out (drop t c.args.out.now) t (ap length front ∙ length-take-le t block (omega (arith, c.run.result.long))) ∙ front in
     record {
       tells = λ e. tells m.WIDTH m.FEEDBACK (omega arith) (m.value s.setup.f) (q.sized s.setup.f) s.setup.tag_len s.setup.high n a k c.args.body.now c.run.new.dst (bytes_of c.run.result) (omega arith) c.requires.body cipher c.run.ensures.tag (sym tag ∙ e);
       only = λ p e. tag ∙ only m.WIDTH m.FEEDBACK (omega arith) (m.value s.setup.f) (q.sized s.setup.f) s.setup.tag_len s.setup.high n a k c.args.body.now c.run.new.dst (bytes_of c.run.result) (omega arith) c.requires.body cipher c.run.ensures.tag p e;
