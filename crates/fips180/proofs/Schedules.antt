@@ -1,5 +1,5 @@
 -- The schedule and the rounds, one turn after the other.
-use Rattle.std.proofs.Common.{◌≡◌, ℕ, zero, suc, ◌+◌, ◌-◌, ◌<◌, ◌≤◌, List, [], ◌∷◌, ◌++◌, map, length, get_or, take, drop, set, le_of_suc-le-suc, ◌⊎◌, inl, inr, sym, refl, ap, ◌∙◌, ap₂, add-one, arith}
+use Rattle.std.proofs.Common.{◌≡◌, ℕ, zero, suc, ◌+◌, ◌-◌, ◌<◌, ◌≤◌, List, [], ◌∷◌, ◌++◌, map, length, get_or, take, drop, set, le_of_suc-le-suc, ◌⊎◌, inl, inr, sym, refl, ap, ◌∙◌, ap₂, subst, add-one, arith}
 use Rattle.std.proofs.lemmas.List.{get_or-take, take_more, take_more_set, take-set-le, length-take-le, take_all}
 use Rattle.fips180.specs.Words.{Sizes}
 use Rattle.fips180.specs.Compression.{word_at, schedule, round, rounds, worked}
@@ -39,11 +39,11 @@ rounds_push z s (x ∷ ks) (y ∷ ws) k w e = rounds_push z (round z s x y) ks w
 pub record After (z : Sizes) (start : State ℕ) (ks ws : List ℕ) (t : ℕ) (s : State ℕ) : Type 0 where
   pub is : s ≡ rounds z start (take t ks) (take t ws)
 
-after_none : (z : Sizes) (start : State ℕ) (ks ws : List ℕ) → After z start ks ws 0 start
+pub after_none : (z : Sizes) (start : State ℕ) (ks ws : List ℕ) → After z start ks ws 0 start
 unfolding rounds
 after_none z start ks ws = record { is = refl }
 
-after_more : (z : Sizes) (start : State ℕ) (ks ws : List ℕ) (t : ℕ) {s u : State ℕ} → t < length ks → t < length ws → u ≡ round z s (get_or ks t 0) (get_or ws t 0)
+pub after_more : (z : Sizes) (start : State ℕ) (ks ws : List ℕ) (t : ℕ) {s u : State ℕ} → t < length ks → t < length ws → u ≡ round z s (get_or ks t 0) (get_or ws t 0)
     → After z start ks ws t s → After z start ks ws (t + 1) u
 after_more z start ks ws t {s} {u} hk hw e a =
     let l : length (take t ks) ≡ length (take t ws) = length-take-le t ks (omega arith) ∙ sym (length-take-le t ws (omega arith)) in
@@ -91,11 +91,12 @@ after_all z start block ws n t {s} {m} lk lw h en et g a =
 pub after_front : (z : Sizes) (start : State ℕ) (block ws : List ℕ) (n t : ℕ) {s : State ℕ} → length z.constants ≡ z.rounds → length ws ≡ z.rounds → 16 ≤ z.rounds
     → n ≡ z.rounds - 16 → t ≡ n → Going z start z.constants block ws t s → rounds z s (drop n z.constants) (drop n ws) ≡ worked z start block
 after_front z start block ws n t {s} lk lw h en et g =
-    let w : take (t + 16) ws ≡ ws = take_all (t + 16) ws (omega arith) in
-    let b = rounds_split z start t z.constants ws (omega arith) (omega arith) in
-    rw (← et) (ap (λ (v : State ℕ). rounds z v (drop t z.constants) (drop t ws)) g.state.is
-    ∙ b
-    ∙ ap (rounds z start z.constants) (sym w ∙ g.words ∙ ap (λ (i : ℕ). schedule z i block) (et ∙ en)))
+    let k : take z.rounds z.constants ≡ z.constants = take_all z.rounds z.constants (omega arith) in
+    let w : take z.rounds ws ≡ ws = take_all z.rounds ws (omega arith) in
+    let split = rounds_split z start t z.constants ws (omega arith) (omega arith) in
+    let left : rounds z s (drop n z.constants) (drop n ws) ≡ rounds z start z.constants ws = rw (← et) (ap (λ (v : State ℕ). rounds z v (drop t z.constants) (drop t ws)) g.state.is ∙ split) in
+    let whole : After z start z.constants ws z.rounds (rounds z s (drop n z.constants) (drop n ws)) = record { is = left ∙ sym (ap₂ (rounds z start) k w) } in
+    after_all z start block ws n z.rounds lk lw h en refl (subst (λ i. Going z start z.constants block ws i s) et g) whole
 
 -- one round of them
 pub rounds_more : (z : Sizes) (s u : State ℕ) (k w : ℕ) (ks ws ks' ws' : List ℕ) → u ≡ round z s k w → ks ≡ k ∷ ks' → ws ≡ w ∷ ws' → rounds z s ks ws ≡ rounds z u ks' ws'
