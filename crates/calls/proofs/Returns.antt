@@ -33,10 +33,13 @@ passed l n a p room may =
     let page = one _ _ _ high.1 in
     record { ad = ad.0; low = low.0; high = high.0; page = page.0 }
 
--- page p was sealed into `body`, and has room where it comes back
-module _ (m : Meaning) (law : Lawful m) (n a p before body back : List ℕ) (k : ℕ) (w : Wrote m n a p before k body) (small : (i : ℕ) → get_or p i 0 < 256) (fits : length p ≤ length back) where
+-- page p was sealed into `body`, and has room where it comes back if the scheme takes it
+module _ (m : Meaning) (law : Lawful m) (n a p before body back : List ℕ) (k : ℕ) (w : Wrote m n a p before k body) (small : (i : ℕ) → get_or p i 0 < 256) (room : length p ≤ m.limits.page → length p ≤ length back) where
   tests : Passed m.limits n a p
   tests = passed m.limits n a p (length before) w.may
+
+  fits : length p ≤ length back
+  fits = room (ltb-false _ _ tests.page)
 
   takes : Takes m n a
   takes = record { nonce_low = ltb-false _ _ tests.low; nonce_high = ltb-false _ _ tests.high; ad_high = ltb-false _ _ tests.ad }
@@ -58,6 +61,7 @@ module _ (m : Meaning) (law : Lawful m) (n a p before body back : List ℕ) (k :
       let t = tests in
       let e = long in
       let s = page.short in
+      let f = fits in
       let b1 = le-ltb (length (m.E n a p)) m.limits.tag (omega arith) in
       let b2 = le-ltb (body_length m.limits m.limits.page) (length (m.E n a p)) (omega arith) in
       let b3 = le-ltb (length back) (page_length m.limits (length (m.E n a p))) (omega arith) in

@@ -37,7 +37,8 @@ impl fmt::Display for TripError {
 }
 
 // Kept apart: nonce, associated data and page, which tests have as slices of their own.
-// Seals `page` into `body`, opens that into `back`, and answers the body's length.
+// Seals `page` into `body`, opens that into `back`, and answers the body's length. `back` has room
+// for the page, unless it is longer than any that the scheme takes.
 pub fn round_trip<S: Scheme>(
     scheme: &mut S,
     nonce: &[u8],
@@ -46,7 +47,7 @@ pub fn round_trip<S: Scheme>(
     body: &mut [u8],
     back: &mut [u8],
 ) -> Result<usize, TripError>
-    requires { length page.now ≤ length back.old }
+    requires { length page.now ≤ (S.meaning scheme.old).limits.page → length page.now ≤ length back.old }
     ensures kept { S.meaning scheme.new ≡ S.meaning scheme.old }
     ensures stays { S.layers scheme.new ≡ S.layers scheme.old }
     ensures body { IfOk result (λ k. (k ≤ length body.new) × (take k body.new ≡ (S.meaning scheme.old).E nonce.now ad.now page.now)) }

@@ -136,11 +136,11 @@ impl Case {
         T: FnOnce(&mut S, usize) -> Result<(), Refusal>,
         requires { T.IsAlwaysCallable set_tag_len }
     {
+        let nonce = row(heap, self.nonce, 16, 1)?;
+        let inputs = Inputs::new(heap, nonce, self.ad, self.page)?;
         if let Err(refusal) = set_tag_len(&mut scheme, self.tag) {
             return format!(in heap; "{refusal}");
         }
-        let nonce = row(heap, self.nonce, 16, 1)?;
-        let inputs = Inputs::new(heap, nonce, self.ad, self.page)?;
         tell(heap, &mut scheme, &inputs)
     }
 }

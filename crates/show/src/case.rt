@@ -20,7 +20,8 @@ pub fn tell<S: Scheme>(heap: Global, scheme: &mut S, inputs: &Inputs) -> Result<
 {
     let Inputs { nonce, ad, page } = inputs;
     let mut body = vec![in heap; 0; ROOM]?;
-    let mut back = vec![in heap; 0; page.len()]?;
+    // No scheme takes a longer page.
+    let mut back = vec![in heap; 0; page.len().min(ROOM)]?;
     tell_in(heap, scheme, nonce, ad, page, &mut body, &mut back)
 }
 
@@ -35,7 +36,7 @@ fn tell_in<S: Scheme>(
     body: &mut [u8],
     back: &mut [u8],
 ) -> Result<String, AllocError>
-    requires { length page.now ≤ length back.old }
+    requires { length page.now ≤ (S.meaning scheme.old).limits.page → length page.now ≤ length back.old }
     ensures kept { S.meaning scheme.new ≡ S.meaning scheme.old }
     ensures stays { S.layers scheme.new ≡ S.layers scheme.old }
     ensures told { IfOk result (λ s. Told (S.meaning scheme.old) nonce.now ad.now page.now (string_bytes s) (seal_fault (S.meaning scheme.old).limits nonce.now ad.now page.now (length body.old))) }

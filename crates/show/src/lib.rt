@@ -3,7 +3,7 @@
 #![tactic(auto)]
 
 ghost use Rattle.std.specs.Prelude.{◌≡◌, ◌<◌, map, IfOk, string_bytes};
-ghost use Rattle.show.specs.Shown.{cell, hex};
+ghost use Rattle.show.specs.Shown.{cell, digit, hex};
 
 use std::alloc::{AllocError, Global};
 
@@ -12,13 +12,23 @@ pub mod case;
 pub mod pages;
 pub mod parts;
 
-// Two hexadecimal digits for each byte.
+// The hexadecimal digit of a number below 16.
+fn hex_digit(n: u8) -> char
+    requires { n < 16 }
+    ensures { (result ≡ digit n) × (result < 128) }
+{
+    char::from_digit(u32::from(n), 16).unwrap()
+}
+
+// Two hexadecimal digits for each byte. Kept from `{:02x}`, which lays out a number with its width
+// and its radix anew for each byte, and takes several times as long.
 pub fn to_hex(heap: Global, bytes: &[u8]) -> Result<String, AllocError>
     ensures { IfOk result (λ s. string_bytes s ≡ hex bytes.now) }
 {
     let mut s = String::new(heap);
     for b in bytes {
-        write!(s, "{b:02x}")?;
+        s.push(hex_digit(b / 16))?;
+        s.push(hex_digit(b % 16))?;
     }
     Ok(s)
 }

@@ -1,14 +1,19 @@
-use Rattle.std.proofs.Common.{◌++◌, string_bytes, get_or, ap, ◌∙◌, arith}
+use Rattle.std.proofs.Common.{◌++◌, string_bytes, ap, ◌∙◌, arith}
 use Rattle.std.proofs.lemmas.List.{take_all}
 use Rattle.show.specs.Shown.{hex}
-use Rattle.show.proofs.Pairs.{hex_more, pair_is}
+use Rattle.show.proofs.Pairs.{hex_more}
 use Rattle.show.proofs.to_hex.Goals as goal
 
 pub loop-b-preserved : goal.loop-b-preserved
 loop-b-preserved c =
-    let s = string_bytes c.loop-b.s in
-    let e = rw (c.in_radix.ensures, c.laid_out.ensures) at c.in_ok-write.ensures.bytes in
-    hex_more c.args.bytes.now s (string_bytes c.write.new.self) c.loop-b.b-index (omega arith) c.loop-b.invariant (e ∙ ap (λ t. s ++ t) (pair_is (get_or c.args.bytes.now c.loop-b.b-index 0) (c.type_inv.bytes c.loop-b.b-index).fits))
+    let one = c.in_ok-push.ensures in
+    let two = c.in_ok-push-2.ensures in
+    let hi = c.hex_digit.ensures in
+    let lo = c.hex_digit-in-loop-b.ensures in
+    hex_more c.args.bytes.now (string_bytes c.loop-b.s) (string_bytes c.push.new.self) (string_bytes c.push-in-loop-b.new.self) c.loop-b.b-index c.hex_digit.result c.hex_digit-in-loop-b.result (omega arith) c.loop-b.invariant
+    (one.bytes ∙ ap (λ t. string_bytes c.loop-b.s ++ t) (one.ascii hi.1))
+    (two.bytes ∙ ap (λ t. string_bytes c.push.new.self ++ t) (two.ascii lo.1))
+    hi.0 lo.0
 
 pub returns : goal.returns
 returns c = c.loop-b.invariant ∙ ap hex (take_all c.loop-b.b-index c.args.bytes.now (omega arith))
