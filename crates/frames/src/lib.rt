@@ -6,5 +6,4 @@
 pub mod offsets;
 pub mod pass;
 pub mod rule;
-pub mod setup;
 pub mod sums;

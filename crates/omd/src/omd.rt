@@ -1,6 +1,6 @@
 // OMD, holding its compression function by value.
 use compression::compression::Compression;
-use frames::setup::Setup;
+use setup::setup::Setup;
 
 pub mod sealing;
 

@@ -1,7 +1,7 @@
 // Serial and counter, holding their compression function by value.
 use crate::keystream::{Chained, Chaining, Counted};
 use compression::compression::Compression;
-use frames::setup::Setup;
+use setup::setup::Setup;
 use std::marker::PhantomData;
 
 pub mod sealing;

@@ -17,10 +17,10 @@ use compression::compression::Compression;
 use compression::part::Part;
 use frames::offsets::OffsetTable;
 use frames::rule::Direction;
-use frames::setup::Setup;
 use scheme::inputs::Inputs;
 use scheme::limits::{End, LONGEST_TAG};
 use scheme::mode::{LawfulMode, Mode};
+use setup::setup::Setup;
 
 impl<F: Compression> Omd<F> {
     // OMD over `f`, with a tag of 16 bytes.

@@ -19,10 +19,10 @@ use compression::part::Part;
 use frames::offsets::OffsetTable;
 use frames::pass::pass_all;
 use frames::rule::{Direction, Rule};
-use frames::setup::Setup;
 use scheme::inputs::Inputs;
 use scheme::limits::{End, LONGEST_TAG};
 use scheme::mode::{LawfulMode, Mode};
+use setup::setup::Setup;
 use std::marker::PhantomData;
 
 impl<F: Compression, K: Chaining> TwoPass<F, K> {
