@@ -1,10 +1,11 @@
 // L* and the table of offsets.
-ghost use Rattle.std.specs.Prelude.{◌≡◌, ℕ, ◌<◌, ◌≤◌, List, ⊤};
+ghost use Rattle.std.specs.Prelude.{◌≡◌, ℕ, ◌<◌, ◌≤◌, List, ◌++◌, length, drop, ⊤};
 ghost use Rattle.std.specs.Int.Count.{count_trailing_zeros};
 ghost use Rattle.base.specs.Bytes.{xor, doubled};
 ghost use Rattle.compression.specs.Parts.{bytes_of};
 ghost use Rattle.frames.specs.Offsets.{Doublings, Entries, Filled, star};
 
+use base::slices::xor_into;
 use compression::compression::Compression;
 use compression::part::Part;
 use std::alloc::AllocError;
@@ -65,13 +66,29 @@ impl<F: Compression> OffsetTable<F> {
         }
     }
 
+    // D(i) from D(i − 1), in place, whatever its length. What is longer than an entry keeps what
+    // stands behind that.
+    pub fn next_into(&self, offset: &mut [u8], i: usize)
+        requires { (1 ≤ i) × (i < 256) }
+        ensures front { (L : ℕ → List ℕ) → Entries self.now L → offset.new ≡ xor offset.old (L (count_trailing_zeros 64 i)) ++ drop (length (L (count_trailing_zeros 64 i))) offset.old }
+        ensures whole { (L : ℕ → List ℕ) → Entries self.now L → length offset.old ≤ length (L (count_trailing_zeros 64 i)) → offset.new ≡ xor offset.old (L (count_trailing_zeros 64 i)) }
+    {
+        let n = i.trailing_zeros() as usize;
+        let entry = &self.entries[n];
+        xor_into(offset, entry.as_slice());
+    }
+
     // D(i) from D(i − 1).
     pub fn next(&self, offset: Part<F>, i: usize) -> Part<F>
         requires { (1 ≤ i) × (i < 256) }
         ensures { (L : ℕ → List ℕ) → Entries self.now L → bytes_of result ≡ xor (bytes_of offset) (L (count_trailing_zeros 64 i)) }
     {
-        let n = i.trailing_zeros() as usize;
-        let entry = self.entries[n];
-        offset ^ entry
+        let w = F::WIDTH;
+        // As long as the longest width.
+        let mut room = [0; 64];
+        let next = &mut room[..w];
+        offset.write_front(next);
+        self.next_into(next, i);
+        Part::front(room)
     }
 }
