@@ -1,6 +1,5 @@
 // Words of 32 and of 64 bits, with what the hardware does to them, and the functions made of that.
 ghost use Rattle.std.specs.Prelude.{◌≡◌, ℕ, ◌*◌, ◌<◌, ◌≤◌, length, bit_and, bit_xor};
-ghost use Rattle.std.specs.Mem.{type_size};
 ghost use Rattle.base.specs.Bytes.{number, digits};
 ghost use Rattle.fips180.specs.Words.{Sizes, sha256, sha512, bits, IsTurn, plus, complement, rotr, shr, ch as choice, maj as majority, big_sigma as three_turns, small_sigma as two_turns};
 ghost use Rattle.std.proofs.Common.{rules};
@@ -9,11 +8,7 @@ use std::ops::{BitAnd, BitXor, Not};
 
 // `sizes` are those of the member of SHA-2 that works on such words, and `val` is the number that
 // a word stands for.
-pub trait Bits: Copy
-    + Default
-    + BitXor<Output = Self>
-    + BitAnd<Output = Self>
-    + Not<Output = Self> {
+pub trait Bits: Copy + BitXor<Output = Self> + BitAnd<Output = Self> + Not<Output = Self> {
     // The bytes of a word.
     const BYTES: usize;
 
@@ -36,21 +31,9 @@ pub trait Bits: Copy
     fn plus(self, y: Self) -> Self
         ensures { val result ≡ plus sizes (val self) (val y) };
 
-    // ROTR.
-    fn turned(self, n: u32) -> Self
-        requires { IsTurn sizes n }
-        ensures { val result ≡ rotr sizes n (val self) };
-
-    // SHR.
-    fn shifted(self, n: u32) -> Self
-        requires { n < bits sizes }
-        ensures { val result ≡ shr n (val self) };
-
     ghost size: { BYTES ≡ sizes.bytes };
 
     ghost some: { 0 < sizes.bytes };
-
-    ghost small: { type_size Self.row ≤ 8 };
 
     ghost can_xor: { (x y : Self) → Self.can_bitxor x y };
 
@@ -63,6 +46,20 @@ pub trait Bits: Copy
     ghost ands: { (x y r : Self) → Self.bitand_gives x y r → val r ≡ bit_and (val x) (val y) };
 
     ghost complements: { (x r : Self) → Self.not_gives x r → val r ≡ complement sizes (val x) };
+}
+
+// Words that turn and shift by a given number of bits: what Σ and σ are made of here. Apart, since
+// the compression asks for Σ and σ themselves, whatever they are made of.
+pub trait Turns: Bits {
+    // ROTR.
+    fn turned(self, n: u32) -> Self
+        requires { IsTurn Self.sizes n }
+        ensures { Self.val result ≡ rotr Self.sizes n (Self.val self) };
+
+    // SHR.
+    fn shifted(self, n: u32) -> Self
+        requires { n < bits Self.sizes }
+        ensures { Self.val result ≡ shr n (Self.val self) };
 }
 
 // Ch: the bits of x choose between y and z.
@@ -80,7 +77,7 @@ pub(crate) fn maj<W: Bits>(x: W, y: W, z: W) -> W
 }
 
 // Σ0 and Σ1: three turns.
-pub(crate) fn big_sigma<W: Bits>(x: W, a: u32, b: u32, c: u32) -> W
+pub(crate) fn big_sigma<W: Turns>(x: W, a: u32, b: u32, c: u32) -> W
     requires { (IsTurn W.sizes a) × (IsTurn W.sizes b) × (IsTurn W.sizes c) }
     ensures { W.val result ≡ three_turns W.sizes (a, b, c) (W.val x) }
 {
@@ -88,7 +85,7 @@ pub(crate) fn big_sigma<W: Bits>(x: W, a: u32, b: u32, c: u32) -> W
 }
 
 // σ0 and σ1: two turns and a shift.
-pub(crate) fn small_sigma<W: Bits>(x: W, a: u32, b: u32, c: u32) -> W
+pub(crate) fn small_sigma<W: Turns>(x: W, a: u32, b: u32, c: u32) -> W
     requires { (IsTurn W.sizes a) × (IsTurn W.sizes b) × (c < bits W.sizes) }
     ensures { W.val result ≡ two_turns W.sizes (a, b, c) (W.val x) }
 {
@@ -109,8 +106,6 @@ impl Bits for u32 {
     ghost size = { Prim.search rules };
 
     ghost some = { Prim.search rules };
-
-    ghost small = { Prim.search rules };
 
     ghost can_xor = { λ x y. tt };
 
@@ -135,7 +130,9 @@ impl Bits for u32 {
     fn plus(self, y: u32) -> u32 {
         self.wrapping_add(y)
     }
+}
 
+impl Turns for u32 {
     #[tactic(auto, using(crate::proofs::Turns::turn))]
     fn turned(self, n: u32) -> u32 {
         self.rotate_right(n)
@@ -158,8 +155,6 @@ impl Bits for u64 {
     ghost size = { Prim.search rules };
 
     ghost some = { Prim.search rules };
-
-    ghost small = { Prim.search rules };
 
     ghost can_xor = { λ x y. tt };
 
@@ -184,7 +179,9 @@ impl Bits for u64 {
     fn plus(self, y: u64) -> u64 {
         self.wrapping_add(y)
     }
+}
 
+impl Turns for u64 {
     #[tactic(auto, using(crate::proofs::Turns::turn))]
     fn turned(self, n: u32) -> u64 {
         self.rotate_right(n)

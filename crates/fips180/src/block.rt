@@ -14,7 +14,8 @@ fn read_half<W: Word>(half: &[u8]) -> [W; 8]
     ensures { map W.val result ≡ words W.sizes half.now }
 {
     let n = W::BYTES;
-    let mut words = [W::default(); 8];
+    // Filled by the first word: there need be no other yet.
+    let mut words = [W::read(&half[..n]); 8];
     // Cut by hand: of what is written in a `zip` of `iter_mut` and `chunks_exact` nothing is known.
     for (i, word) in words.iter_mut().enumerate() {
         *word = W::read(&half[n * i..n * (i + 1)]);
@@ -34,9 +35,12 @@ fn write_half<W: Word>(words: [W; 8], out: &mut [u8])
     }
 }
 
-// The compression of a block, handed in as two halves, into the chaining value h.
+// The compression of a block, handed in as two halves, into the chaining value h. `room` is for
+// the schedule: an array for it would need a constant number of rounds, and words that are known to
+// be small.
 // Kept: lengths by clauses, since a type for half a block would ask for the same where it is made.
-pub fn compress_halves<W: Word>(h: &[u8], left: &[u8], right: &[u8], out: &mut [u8])
+pub fn compress_halves<W: Word>(room: &mut [W], h: &[u8], left: &[u8], right: &[u8], out: &mut [u8])
+    requires room { length room.old ≡ W.sizes.rounds }
     requires h { length h.now ≡ W.sizes.bytes * 8 }
     requires left { length left.now ≡ W.sizes.bytes * 8 }
     requires right { length right.now ≡ W.sizes.bytes * 8 }
@@ -44,6 +48,6 @@ pub fn compress_halves<W: Word>(h: &[u8], left: &[u8], right: &[u8], out: &mut [
     ensures { out.new ≡ half_fixed W.sizes left.now h.now right.now }
 {
     let start = State::from(read_half(h));
-    let end: State<W> = compress(start, read_half(left), read_half(right));
-    write_half(end.into(), out);
+    let end = compress(room, start, read_half(left), read_half(right));
+    write_half(<[W; 8]>::from(end), out);
 }

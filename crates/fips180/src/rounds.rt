@@ -64,17 +64,18 @@ fn run<W: Word>(start: State<W>, w: &mut [W]) -> State<W>
     s + start
 }
 
-// The most rounds of a member of the family.
-const MOST_ROUNDS: usize = 80;
-
-// The same of a block that is handed in as two halves, from the chaining value `start`.
-pub(crate) fn compress<W: Word>(start: State<W>, left: [W; 8], right: [W; 8]) -> State<W>
+// The same of a block that is handed in as two halves, from the chaining value `start`. `room` is
+// for the schedule.
+pub(crate) fn compress<W: Word>(
+    room: &mut [W],
+    start: State<W>,
+    left: [W; 8],
+    right: [W; 8],
+) -> State<W>
+    requires { length room.old ≡ W.sizes.rounds }
     ensures { values W.val result ≡ added W.sizes (worked W.sizes (values W.val start) (map W.val left ++ map W.val right)) (values W.val start) }
 {
-    let mut room = [W::default(); MOST_ROUNDS];
-    let room = &mut room[..];
-    let w = &mut room[0..W::constants().len()];
-    w[0..8].copy_from_slice(&left);
-    w[8..16].copy_from_slice(&right);
-    run(start, w)
+    room[0..8].copy_from_slice(&left);
+    room[8..16].copy_from_slice(&right);
+    run(start, room)
 }

@@ -29,7 +29,7 @@ pub trait Word: Bits + 'static {
     fn small_sigma1(self) -> Self
         ensures { Self.val result ≡ small_sigma Self.sizes Self.sizes.small1 (Self.val self) };
 
-    ghost enough: { (16 ≤ Self.sizes.rounds) × (Self.sizes.rounds ≤ 80) };
+    ghost enough: { 16 ≤ Self.sizes.rounds };
 
     ghost table: { length Self.sizes.constants ≡ Self.sizes.rounds };
 }

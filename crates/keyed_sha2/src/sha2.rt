@@ -1,5 +1,6 @@
 // SHA-256 and SHA-512 by one code.
 ghost use Rattle.std.specs.Prelude.{◌≡◌, ℕ, ◌*◌, ◌<◌, ◌≤◌, ◌^◌};
+ghost use Rattle.std.specs.Mem.{type_size};
 ghost use Rattle.fips180.specs.Compression.{half_fixed};
 ghost use Rattle.keyed_sha2.specs.Keys.{keyed};
 ghost use Rattle.fips180.proofs.Compressed.{length-half_fixed, Bytes-half_fixed};
@@ -13,13 +14,21 @@ use fips180::block::compress_halves;
 use fips180::word::Word;
 use std::marker::PhantomData;
 
+// The most rounds of a member of the family.
+const MOST_ROUNDS: usize = 80;
+
 // Words whose function has chaining values of `WIDTH` bytes, and the feedback number of that width.
-pub trait Member<const WIDTH: usize>: Word {
+// The schedule of such words fits the array that a call makes for it.
+pub trait Member<const WIDTH: usize>: Word + Default {
     const FEEDBACK: u16;
 
     ghost FEEDBACK: { ℕ };
 
     ghost fits: { (WIDTH ≡ 8 * Self.sizes.bytes) × (32 ≤ WIDTH) × (WIDTH ≤ 64) × (FEEDBACK < 2 ^ 16) };
+
+    ghost few: { Self.sizes.rounds ≤ 80 };
+
+    ghost small: { type_size Self.row ≤ 8 };
 }
 
 // The compression of SHA-2 under a key. `key` is the first half of each block.
@@ -50,7 +59,9 @@ impl<W: Member<WIDTH>, const WIDTH: usize> Compression for Sha2<W, WIDTH> {
 
     fn compress(&mut self, h: &[u8], m: &[u8], out: &mut [u8]) -> Result<(), Refusal> {
         check_parts(WIDTH, h.len(), m.len(), out.len())?;
-        compress_halves::<W>(h, &self.key, m, out);
+        let mut room = [W::default(); MOST_ROUNDS];
+        let room = &mut room[..W::constants().len()];
+        compress_halves(room, h, &self.key, m, out);
         Ok(())
     }
 }

@@ -11,4 +11,8 @@ impl Member<32> for u32 {
     ghost FEEDBACK = { 0x0425 };
 
     ghost fits = { Prim.search rules };
+
+    ghost few = { Prim.search rules };
+
+    ghost small = { Prim.search rules };
 }

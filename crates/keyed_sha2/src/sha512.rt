@@ -11,4 +11,8 @@ impl Member<64> for u64 {
     ghost FEEDBACK = { 0x0125 };
 
     ghost fits = { Prim.search rules };
+
+    ghost few = { Prim.search rules };
+
+    ghost small = { Prim.search rules };
 }

@@ -52,6 +52,6 @@ returns g c =
     let ek = rest_of v (length ks - 16) ks (iter_rest (zip_first it)) cc in
     let ew = rest_of v (length ks - 16) w (iter_rest (zip_second it)) cc in
     let left = either_empty_from_Zip c.loop-k.k-iterator c.next.new.self c.next.result c.in-None.is c.next.ensures.steps in
-    let all = after_front z (values v c.args.start) (take 16 (map v c.args.w.now)) (map v w) (length ks - 16) c.loop-t.t g.met.W.Word.table nw g.met.W.Word.enough.0 (omega arith) (omega arith) c.loop-t.invariant in
+    let all = after_front z (values v c.args.start) (take 16 (map v c.args.w.now)) (map v w) (length ks - 16) c.loop-t.t g.met.W.Word.table nw g.met.W.Word.enough (omega arith) (omega arith) c.loop-t.invariant in
     let done = sym (rounds_end z v _ _ _ left) ∙ c.loop-k.invariant ∙ ap₂ (rounds z (values v c.loop-t.s)) (ek ∙ ap (drop (length ks - 16)) c.constants-constants.ensures) ew ∙ all in
     c.add.ensures ∙ ap (λ (s : State ℕ). added z s (values v c.args.start)) done
