@@ -1,9 +1,9 @@
 // Seals a small book, opens it into one page buffer, and shows what a refused page leaves there.
 #![tactic(auto)]
 
+use book::pages::{open, seal};
 use compression::trial::Trial;
 use omd::omd::Omd;
-use show::pages::{open, seal};
 use std::io;
 
 // Room for the largest page of this book.

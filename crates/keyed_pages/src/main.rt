@@ -3,12 +3,12 @@
 #![tactic(auto)]
 
 use address::address::Addressed;
+use book::pages::{open, seal};
 use compression::compression::Compression;
 use compression::keyed::Keyed;
 use keyed_sha2::sha256::Sha256;
 use keyed_sha2::sha512::Sha512;
 use omd::omd::Omd;
-use show::pages::{open, seal};
 use std::io;
 use two_pass::modes::Counter;
 

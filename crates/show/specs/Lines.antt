@@ -1,6 +1,5 @@
 -- Answers and calls, as programs print them.
-use Rattle.std.specs.Prelude.{◌≡◌, ℕ, not, cond, is_ok, List, [], ◌∷◌, ◌++◌, replicate, count_by, codes, Ok, Err, Some, None, Option, Result, ◌==◌}
-use Rattle.std.specs.Global.{Vec}
+use Rattle.std.specs.Prelude.{◌≡◌, ℕ, not, cond, is_ok, List, ◌∷◌, ◌++◌, replicate, count_by, codes, Ok, Err, Some, None, Option, Result, ◌==◌}
 use Rattle.std.specs.Fmt.{decimal}
 use Rattle.base.specs.Bytes.{zeros}
 use Rattle.base.specs.Refusals.{shown}
@@ -40,14 +39,3 @@ compressed c =
 abbrev pub Told : Meaning → (n a p text : List ℕ) → (fault : Option Fault) → Type 0
 Told m n a p text None = text ≡ hex (m.E n a p)
 Told m n a p text (Some fault) = (e : Refusal) × (said e ≡ fault) × (text ≡ shown e)
-
--- the nonce of a page: the book's job number 5, and the page's number
-abbrev pub page_nonce : ℕ → List ℕ
-page_nonce page = zeros 7 ++ 5 ∷ zeros 3 ++ page ∷ []
-
--- the body of a page is handed out if no fault stands against sealing it
-abbrev pub Handed : Meaning → (n a p : List ℕ) → Option (Vec ℕ) → (fault : Option Fault) → Type 0
-Handed m n a p (Some body) None = body.items ≡ m.E n a p
-Handed m n a p None (Some fault) = Unit {0}
-Handed m n a p (Some body) (Some fault) = ⊥
-Handed m n a p None None = ⊥

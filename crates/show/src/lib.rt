@@ -9,7 +9,6 @@ use std::alloc::{AllocError, Global};
 
 pub mod answer;
 pub mod case;
-pub mod pages;
 pub mod parts;
 
 // The hexadecimal digit of a number below 16.
@@ -20,8 +19,8 @@ fn hex_digit(n: u8) -> char
     char::from_digit(u32::from(n), 16).unwrap()
 }
 
-// Two hexadecimal digits for each byte. Kept from `{:02x}`, which lays out a number with its width
-// and its radix anew for each byte, and takes several times as long.
+// Two hexadecimal digits for each byte. Not by `{:02x}`: that lays out a number with its width and
+// its radix anew for each byte, and takes several times as long.
 pub fn to_hex(heap: Global, bytes: &[u8]) -> Result<String, AllocError>
     ensures { IfOk result (λ s. string_bytes s ≡ hex bytes.now) }
 {

@@ -34,6 +34,7 @@ pub fn seals_to<S: Scheme>(scheme: &mut S, ad: &[u8], page: &[u8], expected: &[u
 mod tests {
     use crate::seals_to;
     use base::refusal::{Cause, Refusal};
+    use book::pages::{open, seal};
     use calls::inputs::{Inputs, row};
     use compression::part::Part;
     use compression::trial::Trial;
@@ -41,7 +42,6 @@ mod tests {
     use omd::omd::Omd;
     use scheme::scheme::Scheme;
     use show::case::tell;
-    use show::pages::{open, seal};
     use std::process::Abort;
     use std::test::Fail;
 

@@ -2,11 +2,11 @@
 ghost use Rattle.std.specs.Prelude.{◌≡◌, ℕ, [], IfOk, Result};
 ghost use Rattle.base.specs.declared.refusal.Refusal.{Refusal};
 ghost use Rattle.scheme.specs.Answers.{Opened, seal_fault};
-ghost use Rattle.show.specs.Lines.{Handed, page_nonce};
+ghost use Rattle.book.specs.Pages.{Handed, page_nonce};
 
-use crate::answer::Answer;
-use crate::{to_cells, to_hex};
 use scheme::scheme::Scheme;
+use show::answer::Answer;
+use show::{to_cells, to_hex};
 use std::io;
 
 // Room for a page's body.
