@@ -53,7 +53,7 @@ pub fn shift_left(x: &mut [u8])
 // The longest string of bytes that is doubled.
 const LONGEST: usize = 64;
 
-// 2·x in the field with this feedback number, whatever the length.
+// 2·x in the field with this feedback number, at every length up to 64.
 pub fn double_into(x: &mut [u8], feedback: u16)
     requires { length x.old ≤ 64 }
     ensures { x.new ≡ double feedback x.old }

@@ -9,6 +9,7 @@ ghost use Rattle.frames.specs.Offsets.{Entries, delta};
 ghost use Rattle.frames.specs.Progress.{Going, Turned};
 
 use crate::offsets::OffsetTable;
+// For callers that know it by this path.
 pub use crate::rule::Direction;
 use crate::rule::Rule;
 use compression::compression::Compression;

@@ -4,6 +4,7 @@ ghost use Rattle.compression.specs.Parts.{bytes_of};
 ghost use Rattle.frames.specs.Directions.{page_of};
 ghost use Rattle.frames.specs.Feeds.{follow};
 
+// For callers that know it by this path.
 pub use crate::pass::pass_all;
 use compression::compression::Compression;
 use compression::part::Part;
