@@ -30,3 +30,8 @@ impl<F: Compression> Clone for Part<F> {
         Ok(*self)
     }
 }
+
+// Nothing of F is kept, so a part may go wherever bytes may.
+unsafe impl<F: Compression> Send for Part<F> {}
+
+unsafe impl<F: Compression> Sync for Part<F> {}
