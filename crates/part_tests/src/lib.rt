@@ -1,5 +1,5 @@
-// Parts, and what the modes make of them, may be sent and shared whatever the function is: shown
-// over `local`, a function that may be neither. For tests alone.
+// Parts, and what the modes make of them, sent and shared over a function that may be neither,
+// which is `local`. For tests alone.
 #![tactic(auto)]
 
 pub mod local;
