@@ -51,7 +51,7 @@ pub(crate) fn open_into<M: Mode>(
         released: false,
     };
     let mut tag = [0; LONGEST_TAG];
-    m.recover(inputs, body, guard.page, &mut tag);
+    m.recover_block(inputs, body, guard.page, &mut tag);
     guard.released = agree(&tag[..len], M::tag_end().tag_part(body, len));
     if !guard.released {
         return Err(Fault(Cause::NotGenuine, 0));

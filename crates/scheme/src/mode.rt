@@ -39,11 +39,30 @@ pub trait Mode {
 
     // Writes to `page` the only page that can have given `body`, and to the front of `out` that
     // page's tag. The page is genuine if the body has this tag.
-    fn recover(&mut self, inputs: Inputs, body: &[u8], page: &mut [u8], out: &mut [u8; LONGEST_TAG])
+    fn recover_block(
+        &mut self,
+        inputs: Inputs,
+        body: &[u8],
+        page: &mut [u8],
+        out: &mut [u8; LONGEST_TAG],
+    )
         requires page { length page.old ≤ 4096 }
         requires body { length body.now ≡ length page.old + tag self.old }
         ensures kept { mode (tag self.new) end (E self.new) ≡ mode (tag self.old) end (E self.old) }
         ensures recovered { Recovered (mode (tag self.old) end (E self.old)) inputs.entry.nonce.now inputs.entry.ad.now body.now page.new out.new };
+
+    // The same, with the tag alone.
+    fn recover(&mut self, inputs: Inputs, body: &[u8], page: &mut [u8], out: &mut [u8])
+        requires page { length page.old ≤ 4096 }
+        requires body { length body.now ≡ length page.old + tag self.old }
+        requires out { length out.old ≡ tag self.old }
+        ensures kept { mode (tag self.new) end (E self.new) ≡ mode (tag self.old) end (E self.old) }
+        ensures recovered { Recovered (mode (tag self.old) end (E self.old)) inputs.entry.nonce.now inputs.entry.ad.now body.now page.new out.new }
+    {
+        let mut block = [0; LONGEST_TAG];
+        self.recover_block(inputs, body, page, &mut block);
+        out.copy_from_slice(&block[..out.len()]);
+    }
 
     ghost tags: { (s : Self) → (4 ≤ tag s) × (tag s ≤ 64) };
 }

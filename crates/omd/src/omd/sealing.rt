@@ -87,7 +87,7 @@ impl<F: Compression> Mode for Omd<F> {
             .write_front(tag);
     }
 
-    fn recover(
+    fn recover_block(
         &mut self,
         inputs: Inputs,
         body: &[u8],

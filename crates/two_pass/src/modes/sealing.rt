@@ -130,7 +130,7 @@ impl<F: Compression, K: Chaining> Mode for TwoPass<F, K> {
         self.encipher(&table, Direction::Seal, d, Part::filled(tag), page, cipher);
     }
 
-    fn recover(
+    fn recover_block(
         &mut self,
         inputs: Inputs,
         body: &[u8],

@@ -3,7 +3,7 @@ use Rattle.std.proofs.lemmas.List.{length-take, length-take-le, take_at}
 use Rattle.base.proofs.Parts.{from_zero}
 use Rattle.compression.specs.Parts.{bytes_of}
 use Rattle.omd.specs.Laws.{tells, only}
-use Rattle.omd.proofs.omd.sealing.OmdMode.recover.Goals as goal
+use Rattle.omd.proofs.omd.sealing.OmdMode.recover_block.Goals as goal
 
 pub returns-clause-recovered : goal.returns-clause-recovered
 returns-clause-recovered g c =

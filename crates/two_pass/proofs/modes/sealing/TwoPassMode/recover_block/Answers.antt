@@ -4,7 +4,7 @@ use Rattle.base.specs.Bytes.{filled}
 use Rattle.base.proofs.Parts.{from_zero, part_end}
 use Rattle.compression.specs.Parts.{bytes_of}
 use Rattle.two_pass.specs.Laws.{recovers}
-use Rattle.two_pass.proofs.modes.sealing.TwoPassMode.recover.Goals as goal
+use Rattle.two_pass.proofs.modes.sealing.TwoPassMode.recover_block.Goals as goal
 
 pub returns-clause-recovered : goal.returns-clause-recovered
 returns-clause-recovered g c =
