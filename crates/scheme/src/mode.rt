@@ -12,7 +12,7 @@ use crate::scheme::Scheme;
 use base::refusal::Refusal;
 
 // The two ways of a mode, on inputs within the limits.
-// Kept: the length of `page` is a clause of both. One way reads the page and the other writes it,
+// Kept: the length of `page` is a clause of each. One way reads the page and the other writes it,
 // so that it would be two types, each made in one place.
 pub trait Mode {
     // The tag's length.
@@ -51,7 +51,7 @@ pub trait Mode {
         ensures kept { mode (tag self.new) end (E self.new) ≡ mode (tag self.old) end (E self.old) }
         ensures recovered { Recovered (mode (tag self.old) end (E self.old)) inputs.entry.nonce.now inputs.entry.ad.now body.now page.new out.new };
 
-    // The same, with the tag alone.
+    // The same, where `out` holds the tag and no more.
     fn recover(&mut self, inputs: Inputs, body: &[u8], page: &mut [u8], out: &mut [u8])
         requires page { length page.old ≤ 4096 }
         requires body { length body.now ≡ length page.old + tag self.old }
