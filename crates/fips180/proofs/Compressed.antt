@@ -10,14 +10,17 @@ use Rattle.fips180.specs.Compression.{words, state_of, listed, added, worked, co
 use Rattle.fips180.specs.declared.state.State.{State}
 use Rattle.fips180.proofs.Strings.{words_append}
 
+-- the words of two halves are those of the block
+pub halves_words : (z : Sizes) → 0 < z.bytes → (left right : List ℕ) {ls rs : List ℕ} → length left ≡ z.bytes * 8 → ls ≡ words z left → rs ≡ words z right → ls ++ rs ≡ words z (left ++ right)
+halves_words z p left right l el er = ap₂ (λ (a b : List ℕ). a ++ b) el er ∙ sym (words_append z p 8 left right l)
+
 -- the steps of the code, joined: `hs`, `ls` and `rs` are the words of the chaining value and of the halves, and `ws` those that are written
 pub compressed_from : (z : Sizes) → 0 < z.bytes → (h left right : List ℕ) {hs ls rs ws out : List ℕ} {s t : State ℕ} → length left ≡ z.bytes * 8
     → hs ≡ words z h → ls ≡ words z left → rs ≡ words z right → s ≡ state_of hs → t ≡ added z (worked z s (ls ++ rs)) s → ws ≡ listed t
     → out ≡ flat_map (digits z.bytes) ws → out ≡ half_fixed z left h right
 unfolding compressed half_fixed
 compressed_from z p h left right {hs} {ls} {rs} {ws} {out} {s} {t} l eh el er es et ew eo =
-    let both : ls ++ rs ≡ words z (left ++ right) = ap₂ (λ (a b : List ℕ). a ++ b) el er ∙ sym (words_append z p 8 left right l) in
-    eo ∙ ap (flat_map (digits z.bytes)) (ew ∙ ap listed (et ∙ ap₂ (λ (u : State ℕ) (block : List ℕ). added z (worked z u block) u) (es ∙ ap state_of eh) both))
+    eo ∙ ap (flat_map (digits z.bytes)) (ew ∙ ap listed (et ∙ ap₂ (λ (u : State ℕ) (block : List ℕ). added z (worked z u block) u) (es ∙ ap state_of eh) (halves_words z p left right l el er)))
 
 length-joined : (b : ℕ) (xs : List ℕ) → length (flat_map (digits b) xs) ≡ length xs * b
 length-joined b [] = sym (zero-mul b)

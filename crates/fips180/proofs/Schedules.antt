@@ -78,14 +78,17 @@ rounds_split z s (suc n) [] ws hk hw = absurd (let h : suc n ≤ 0 = hk in omega
 rounds_split z s (suc n) (k ∷ ks) [] hk hw = absurd (let h : suc n ≤ 0 = hw in omega arith)
 rounds_split z s (suc n) (k ∷ ks) (w ∷ ws) hk hw = rounds_split z (round z s k w) n ks ws (le_of_suc-le-suc hk) (le_of_suc-le-suc hw)
 
+-- the schedule is whole
+pub going_all : (z : Sizes) (start : State ℕ) (ks block ws : List ℕ) (t : ℕ) {s : State ℕ} → length ws ≡ z.rounds → 16 ≤ z.rounds → t ≡ z.rounds - 16 → Going z start ks block ws t s → ws ≡ schedule z (z.rounds - 16) block
+going_all z start ks block ws t lw h et g = sym (take_all (t + 16) ws (omega arith)) ∙ g.words ∙ ap (λ (i : ℕ). schedule z i block) et
+
 -- all rounds are done
 pub after_all : (z : Sizes) (start : State ℕ) (block ws : List ℕ) (n t : ℕ) {s m : State ℕ} → length z.constants ≡ z.rounds → length ws ≡ z.rounds → 16 ≤ z.rounds
     → n ≡ z.rounds - 16 → t ≡ z.rounds → Going z start z.constants block ws n m → After z start z.constants ws t s → s ≡ worked z start block
 after_all z start block ws n t {s} {m} lk lw h en et g a =
     let k : take t z.constants ≡ z.constants = take_all t z.constants (omega arith) in
     let w : take t ws ≡ ws = take_all t ws (omega arith) in
-    let w' : take (n + 16) ws ≡ ws = take_all (n + 16) ws (omega arith) in
-    a.is ∙ ap₂ (rounds z start) k (w ∙ sym w' ∙ g.words ∙ ap (λ (i : ℕ). schedule z i block) en)
+    a.is ∙ ap₂ (rounds z start) k (w ∙ going_all z start z.constants block ws n lw h en g)
 
 -- the schedule is whole: with the rounds that are left, all are done
 pub after_front : (z : Sizes) (start : State ℕ) (block ws : List ℕ) (n t : ℕ) {s : State ℕ} → length z.constants ≡ z.rounds → length ws ≡ z.rounds → 16 ≤ z.rounds

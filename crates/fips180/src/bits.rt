@@ -1,5 +1,5 @@
 // Words of 32 and of 64 bits, with what the hardware does to them, and the functions made of that.
-ghost use Rattle.std.specs.Prelude.{◌≡◌, ℕ, ◌*◌, ◌<◌, ◌≤◌, length, bit_and, bit_xor};
+ghost use Rattle.std.specs.Prelude.{◌≡◌, ℕ, ◌<◌, length, bit_and, bit_xor};
 ghost use Rattle.base.specs.Bytes.{number, digits};
 ghost use Rattle.fips180.specs.Words.{Sizes, sha256, sha512, bits, IsTurn, plus, complement, rotr, shr, ch as choice, maj as majority, big_sigma as three_turns, small_sigma as two_turns};
 ghost use Rattle.std.proofs.Common.{rules};

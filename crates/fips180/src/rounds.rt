@@ -1,6 +1,6 @@
 // The schedule and the rounds.
-ghost use Rattle.std.specs.Prelude.{◌≡◌, ◌≤◌, ◌++◌, map, length, take};
-ghost use Rattle.fips180.specs.Compression.{word_at, round as turned, added, worked};
+ghost use Rattle.std.specs.Prelude.{◌≡◌, ◌≤◌, ◌++◌, ◌-◌, map, length, take};
+ghost use Rattle.fips180.specs.Compression.{word_at, schedule, round as turned, added, worked};
 ghost use Rattle.fips180.specs.Values.{values};
 
 use crate::bits::{ch, maj};
@@ -43,12 +43,13 @@ fn next_word<W: Word>(w: &[W], t: usize) -> W
 }
 
 // The chaining value after a block, from the chaining value `start`. The sixteen words of the
-// block stand in front of `w`, which is room for the schedule.
+// block stand in front of `w`, which is room for the schedule and holds it afterwards.
 // A round and the word that is due sixteen rounds later are worked out in one turn: neither waits
 // for the other, so that a processor does both at once.
 fn run<W: Word>(start: State<W>, w: &mut [W]) -> State<W>
     requires { length w.old ≡ W.sizes.rounds }
-    ensures { values W.val result ≡ added W.sizes (worked W.sizes (values W.val start) (take 16 (map W.val w.old))) (values W.val start) }
+    ensures value { values W.val result ≡ added W.sizes (worked W.sizes (values W.val start) (take 16 (map W.val w.old))) (values W.val start) }
+    ensures schedule { map W.val w.new ≡ schedule W.sizes (W.sizes.rounds - 16) (take 16 (map W.val w.old)) }
 {
     let constants = W::constants();
     let late = constants.len() - 16;
@@ -73,7 +74,8 @@ pub(crate) fn compress<W: Word>(
     right: [W; 8],
 ) -> State<W>
     requires { length room.old ≡ W.sizes.rounds }
-    ensures { values W.val result ≡ added W.sizes (worked W.sizes (values W.val start) (map W.val left ++ map W.val right)) (values W.val start) }
+    ensures value { values W.val result ≡ added W.sizes (worked W.sizes (values W.val start) (map W.val left ++ map W.val right)) (values W.val start) }
+    ensures schedule { map W.val room.new ≡ schedule W.sizes (W.sizes.rounds - 16) (map W.val left ++ map W.val right) }
 {
     room[0..8].copy_from_slice(&left);
     room[8..16].copy_from_slice(&right);

@@ -1,5 +1,5 @@
 // The worked examples of serial and counter in docs/MODES.md: of the definitions by one computation,
-// and of the code by tests through the public calls.
+// and of the code by tests through the public calls; and what all three modes recover of one.
 #![tactic(auto)]
 
 ghost use Rattle.std.specs.Prelude.{◌≡◌, true};

@@ -7,7 +7,7 @@ use Rattle.fips180.specs.Compression.{round, rounds, added}
 use Rattle.fips180.specs.Values.{values}
 use Rattle.fips180.specs.declared.state.State.{State}
 use Rattle.fips180.proofs.Mapped.{read-map, rest_of}
-use Rattle.fips180.proofs.Schedules.{Going, going_none, going_more, after_front, rounds_more, rounds_end}
+use Rattle.fips180.proofs.Schedules.{Going, going_none, going_more, going_all, after_front, rounds_more, rounds_end}
 use Rattle.fips180.proofs.rounds.run.Goals as goal
 
 pub loop-t-init : goal.loop-t-init
@@ -38,8 +38,8 @@ loop-k-preserved g c =
     let e = c.in-Some.ensures.steps in
     sym (rounds_more z _ _ _ _ _ _ _ _ c.round-s-in-loop-k.ensures (ap (map v) e.0) (ap (map v) e.1)) ∙ c.loop-k.invariant
 
-pub returns : goal.returns
-returns g c =
+pub returns-clause-value : goal.returns-clause-value
+returns-clause-value g c =
     let z = g.W.Bits.sizes in
     let v = g.W.Bits.val in
     let w = c.loop-t.w in
@@ -55,3 +55,10 @@ returns g c =
     let all = after_front z (values v c.args.start) (take 16 (map v c.args.w.now)) (map v w) (length ks - 16) c.loop-t.t g.met.W.Word.table nw g.met.W.Word.enough (omega arith) (omega arith) c.loop-t.invariant in
     let done = sym (rounds_end z v _ _ _ left) ∙ c.loop-k.invariant ∙ ap₂ (rounds z (values v c.loop-t.s)) (ek ∙ ap (drop (length ks - 16)) c.constants-constants.ensures) ew ∙ all in
     c.add.ensures ∙ ap (λ (s : State ℕ). added z s (values v c.args.start)) done
+
+pub returns-clause-schedule : goal.returns-clause-schedule
+returns-clause-schedule g c =
+    let v = g.W.Bits.val in
+    let nk : length c.constants-constants.result.now ≡ g.W.Bits.sizes.rounds = simp length-map at (ap length c.constants-constants.ensures) ∙ g.met.W.Word.table in
+    let nw : length (map v c.loop-t.w) ≡ g.W.Bits.sizes.rounds = simp length-map (omega arith) in
+    going_all g.W.Bits.sizes (values v c.args.start) g.W.Bits.sizes.constants (take 16 (map v c.args.w.now)) (map v c.loop-t.w) c.loop-t.t nw g.met.W.Word.enough (omega arith) c.loop-t.invariant
